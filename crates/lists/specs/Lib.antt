@@ -1,0 +1,4 @@
+pub mod Every
+pub mod Numbers
+pub mod Order
+pub mod Part

@@ -1,0 +1,11 @@
+pub mod Field
+pub mod Types
+pub mod Roots
+pub mod Relation
+pub mod Parse
+pub mod WellFormed
+pub mod Layout
+pub mod Reading
+pub mod Canonical
+pub mod Signature
+pub mod Lookup
