@@ -1,6 +1,10 @@
 pub mod Tests
 pub mod Every
+pub mod First
+pub mod Firsts
 pub mod Numbers
 pub mod Order
 pub mod Part
 pub mod Over
+pub mod Entries
+pub mod Sets

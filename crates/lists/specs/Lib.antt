@@ -1,4 +1,5 @@
 pub mod Every
+pub mod First
 pub mod Numbers
 pub mod Order
 pub mod Part

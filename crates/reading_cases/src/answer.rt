@@ -4,13 +4,13 @@ use stored::read::Answer;
 use stored::read::read;
 
 // What the reader answers.
-pub fn of(s: &[u8]) -> Answer {
+pub(crate) fn of(s: &[u8]) -> Answer {
     let reading = read(s);
     reading.answer
 }
 
 // Whether two answers are equal.
-pub fn same(a: Answer, b: Answer) -> bool {
+pub(crate) fn same(a: Answer, b: Answer) -> bool {
     match a {
         Answer::Model => match b {
             Answer::Model => true,
@@ -24,22 +24,22 @@ pub fn same(a: Answer, b: Answer) -> bool {
 }
 
 // A number, in decimal.
-pub fn say_number(n: usize) {
+pub(crate) fn say_number(n: usize) {
     io::print_decimal(STDOUT_FILENO, n as u64);
 }
 
 // The end of a line.
-pub fn say_line_end() {
+pub(crate) fn say_line_end() {
     io::write_all(STDOUT_FILENO, b"\n");
 }
 
 // A line that is no case.
-pub fn say_broken_case() {
+pub(crate) fn say_broken_case() {
     io::write_all(STDOUT_FILENO, b"?\n");
 }
 
 // An answer that has a line for itself.
-pub fn say(answer: Answer) {
+pub(crate) fn say(answer: Answer) {
     match answer {
         Answer::Model => {
             io::write_all(STDOUT_FILENO, b"model\n");
@@ -52,7 +52,7 @@ pub fn say(answer: Answer) {
 }
 
 // An answer in a row of several: short, and with a space before it if it is not the first.
-pub fn say_in_row(answer: Answer, is_first: bool) {
+pub(crate) fn say_in_row(answer: Answer, is_first: bool) {
     if !is_first {
         io::write_all(STDOUT_FILENO, b" ");
     }

@@ -92,7 +92,7 @@ fn replay_byte(file: &mut [u8], i: usize)
 }
 
 // A line for each byte.
-pub fn replay(file: &mut [u8]) {
+pub(crate) fn replay(file: &mut [u8]) {
     let mut i: usize = 0;
     while i < file.len() {
         replay_byte(file, i);

@@ -15,7 +15,7 @@ fn digit(c: u8) -> u8
 }
 
 // Whether some text is bytes in hex.
-pub fn is_hex(text: &[u8]) -> bool {
+pub(crate) fn is_hex(text: &[u8]) -> bool {
     let mut i: usize = 0;
     while i < text.len() {
         if 16 <= digit(text[i]) {
@@ -32,7 +32,7 @@ fn byte(high: u8, low: u8) -> u8 {
 }
 
 // Writes the bytes of some text to the front of a buffer, and answers how many there are.
-pub fn decode(text: &[u8], out: &mut [u8]) -> usize
+pub(crate) fn decode(text: &[u8], out: &mut [u8]) -> usize
     requires { ⌜ length (now text) ≤ 2 * length (now out) ⌝ }
     ensures { λ r. ⌜ Counts r (now (out .exit)) ⌝ }
 {

@@ -61,7 +61,7 @@ fn end_of_line(text: &[u8], start: usize) -> usize
 }
 
 // All lines.
-pub fn replay_all(text: &[u8]) {
+pub(crate) fn replay_all(text: &[u8]) {
     let mut at: usize = 0;
     while at < text.len() {
         let end = end_of_line(text, at);

@@ -62,7 +62,7 @@ fn show_relations(s: &[u8], l: Layout)
 }
 
 // The whole model.
-pub fn show_model(s: &[u8], l: Layout)
+pub(crate) fn show_model(s: &[u8], l: Layout)
     requires { ⌜ Reads (now s) l ⌝ }
 {
     say::model(is_canonical(s, l));

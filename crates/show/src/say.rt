@@ -22,14 +22,14 @@ fn numbers(bytes: &[u8]) {
 }
 
 // Which field is at fault.
-pub fn fault(offset: usize) {
+pub(crate) fn fault(offset: usize) {
     io::write_all(STDOUT_FILENO, b"malformed: the field at offset ");
     number(offset);
     io::write_all(STDOUT_FILENO, b"\n");
 }
 
 // That there is a model, and whether it is canonical.
-pub fn model(is_canonical: bool) {
+pub(crate) fn model(is_canonical: bool) {
     if is_canonical {
         io::write_all(STDOUT_FILENO, b"model, canonical\n");
     } else {
@@ -38,7 +38,7 @@ pub fn model(is_canonical: bool) {
 }
 
 // How many types there are, and how many elements each has.
-pub fn types(sizes: &[u8]) {
+pub(crate) fn types(sizes: &[u8]) {
     io::write_all(STDOUT_FILENO, b"types ");
     number(sizes.len());
     io::write_all(STDOUT_FILENO, b":");
@@ -47,7 +47,7 @@ pub fn types(sizes: &[u8]) {
 }
 
 // How many elements there are, and how many of them are their own representative.
-pub fn elements(size: usize, representatives: usize) {
+pub(crate) fn elements(size: usize, representatives: usize) {
     io::write_all(STDOUT_FILENO, b"elements ");
     number(size);
     io::write_all(STDOUT_FILENO, b"\nrepresentatives ");
@@ -56,14 +56,14 @@ pub fn elements(size: usize, representatives: usize) {
 }
 
 // How many relations there are.
-pub fn relations(count: usize) {
+pub(crate) fn relations(count: usize) {
     io::write_all(STDOUT_FILENO, b"relations ");
     number(count);
     io::write_all(STDOUT_FILENO, b"\n");
 }
 
 // A relation's number, the types of its columns, and how many rows it has.
-pub fn relation(k: usize, columns: &[u8], rows: usize) {
+pub(crate) fn relation(k: usize, columns: &[u8], rows: usize) {
     io::write_all(STDOUT_FILENO, b"relation ");
     number(k);
     io::write_all(STDOUT_FILENO, b": columns");

@@ -9,3 +9,4 @@ pub mod Reading
 pub mod Canonical
 pub mod Signature
 pub mod Lookup
+pub mod Representatives

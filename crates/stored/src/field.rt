@@ -21,7 +21,7 @@ pub enum Next {
 }
 
 // A two-byte number, high byte first.
-pub fn word(hi: u8, lo: u8) -> usize
+pub(crate) fn word(hi: u8, lo: u8) -> usize
     ensures { λ r. ⌜ r ≡ 256 * hi + lo ⌝ }
 {
     256 * (hi as usize) + (lo as usize)

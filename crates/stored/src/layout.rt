@@ -35,7 +35,7 @@ impl Layout {
     }
 
     // With one relation more.
-    pub fn with_relation(self, arity: usize, count: usize, rows: usize) -> Self
+    pub(crate) fn with_relation(self, arity: usize, count: usize, rows: usize) -> Self
         requires { ⌜ self .relations < maxRelations ⌝ }
         ensures { λ r. ⌜ r ≡ withRelation self arity count rows ⌝ }
     {

@@ -80,7 +80,7 @@ fn rows_typed(types: &[u8], n: usize, columns: &[u8], rows: &[u8], count: usize)
 }
 
 // Whether a row stands strictly before another, first column first.
-pub fn row_before(a: &[u8], b: &[u8]) -> bool
+pub(crate) fn row_before(a: &[u8], b: &[u8]) -> bool
     ensures { λ r. ⌜ r ≡ rowBefore (now (a .entry)) (now (b .entry)) ⌝ }
 {
     let mut j: usize = 0;
@@ -171,7 +171,7 @@ fn rows_hold(types: &[u8], v: &[u8], arity: usize, count: usize) -> bool
 }
 
 // The arity and the row count of a value that keeps the rules.
-pub fn relation(types: &[u8], room: usize, v: &[u8]) -> Head
+pub(crate) fn relation(types: &[u8], room: usize, v: &[u8]) -> Head
     requires { ⌜ length (now types) ≤ maxTypes ⌝ }
     ensures { λ r. ⌜ r ≡ headOf (now (types .entry)) room (now (v .entry)) ⌝ }
 {

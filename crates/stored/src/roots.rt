@@ -29,7 +29,7 @@ fn root_holds(types: &[u8], roots: &[u8], x: usize) -> bool
 }
 
 // Whether the value keeps the rules.
-pub fn roots_hold(types: &[u8], roots: &[u8]) -> bool
+pub(crate) fn roots_hold(types: &[u8], roots: &[u8]) -> bool
     requires { ⌜ typesHold (now types) ≡ true ⌝ }
     ensures { λ r. ⌜ r ≡ rootsHold (now (types .entry)) (now (roots .entry)) ⌝ }
 {

@@ -10,7 +10,7 @@ use crate::model::Element;
 use crate::model::TypeId;
 
 // How many elements there are, summed in a wide number.
-pub fn total(types: &[u8]) -> usize
+pub(crate) fn total(types: &[u8]) -> usize
     requires { ⌜ length (now types) ≤ maxTypes ⌝ }
     ensures { λ r. ⌜ r ≡ sum (now (types .entry)) ⌝ }
 {
@@ -24,7 +24,7 @@ pub fn total(types: &[u8]) -> usize
 }
 
 // Whether the value keeps the rules.
-pub fn types_hold(types: &[u8]) -> bool
+pub(crate) fn types_hold(types: &[u8]) -> bool
     ensures { λ r. ⌜ r ≡ typesHold (now (types .entry)) ⌝ }
 {
     if 16 < types.len() {
@@ -53,7 +53,7 @@ pub fn type_in(types: &[u8], e: Element) -> TypeId
 }
 
 // The first element of each type.
-pub fn first_elements(types: &[u8]) -> [usize; 16]
+pub(crate) fn first_elements(types: &[u8]) -> [usize; 16]
     requires { ⌜ length (now types) ≤ maxTypes ⌝ }
     ensures { λ r. ⌜ r ≡ table (firstsFrom 0 (now (types .entry))) ⌝ }
 {

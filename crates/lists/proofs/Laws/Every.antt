@@ -1,14 +1,14 @@
 -- The laws of `all` and `pairwise`: their clauses as equations, from the front on and by members. Assumes nothing.
-use Prim.Native.Nat.{ℕ, suc, _<_, _≤_, _+_}
-use mathlib.Core.Path.{_≡_, refl, sym, _∙_}
+use Prim.Native.Nat.{ℕ, zero, suc, _<_, _≤_, _+_}
+use mathlib.Core.Path.{_≡_, refl, sym, ap, _∙_}
 use mathlib.Core.Logic.{_⊎_, inl, inr}
 use mathlib.Core.Bool.{Bool, true, false}
-use mathlib.Core.List.{List, [], _∷_, List·Memᴰ, List·Memᴰ·head, List·Memᴰ·tail, List·Memᴰ·cases-cons, List·Memᴰ·not-nil}
+use mathlib.Core.List.{List, [], _∷_, _++_, map, List·Memᴰ, List·Memᴰ·head, List·Memᴰ·tail, List·Memᴰ·cases-cons, List·Memᴰ·not-nil}
 use native.Mathlib.Omega.{arith}
 use native.Mathlib.Numerals.{add-one}
-use lib.ListN.{length, getD, drop, drop-of-length-le}
+use lib.ListN.{length, getD, take, drop, replicate, drop-of-length-le}
 use lib.Seq.{drop-cons}
-use Rattle.lists.specs.Every.{all, pairwise}
+use Rattle.lists.specs.Every.{all, any, keep, pairwise}
 use Rattle.lists.proofs.Laws.Tests.{split, clash}
 
 module _ {A : Type 0} (p : A → Bool) where
@@ -137,3 +137,136 @@ module _ {A : Type 0} (p : A → A → Bool) where
   pub pairwise-refl : ((x : A) → p x x ≡ true) → (xs : List A) → pairwise p xs xs ≡ true
   pairwise-refl f [] = pairwise-none p
   pairwise-refl f (x ∷ xs) = pairwise-yes p x xs x xs (f x) ∙ pairwise-refl f xs
+
+-- the laws of `any` and `keep`
+module _ {A : Type 0} (p : A → Bool) where
+  pub any-none : any p [] ≡ false
+  unfolding any
+  any-none = refl
+
+  pub any-yes : (x : A) (xs : List A) → p x ≡ true → any p (x ∷ xs) ≡ true
+  unfolding any
+  any-yes x xs e = rw (e, any)
+
+  pub any-no : (x : A) (xs : List A) → p x ≡ false → any p (x ∷ xs) ≡ any p xs
+  unfolding any
+  any-no x xs e = rw (e, any)
+
+  pub any-mem : (xs : List A) (x : A) → List·Memᴰ x xs → p x ≡ true → any p xs ≡ true
+  any-mem [] x m h = absurd (List·Memᴰ·not-nil m)
+  any-mem (y ∷ ys) x m h = go (split (p y)) (List·Memᴰ·cases-cons m) (any-mem ys x)
+    where
+      go : (p y ≡ true) ⊎ (p y ≡ false) → (x ≡ y) ⊎ List·Memᴰ x ys → (List·Memᴰ x ys → p x ≡ true → any p ys ≡ true) → any p (y ∷ ys) ≡ true
+      go (inl e) n ih = any-yes y ys e
+      go (inr e) (inl q) ih = clash h (rw q e)
+      go (inr e) (inr n) ih = any-no y ys e ∙ ih n h
+
+  pub mem-any : (xs : List A) → any p xs ≡ true → (x : A) × List·Memᴰ x xs × (p x ≡ true)
+  mem-any [] h = clash h any-none
+  mem-any (y ∷ ys) h = go (split (p y)) (mem-any ys)
+    where
+      go : (p y ≡ true) ⊎ (p y ≡ false) → (any p ys ≡ true → (x : A) × List·Memᴰ x ys × (p x ≡ true)) → (x : A) × List·Memᴰ x (y ∷ ys) × (p x ≡ true)
+      go (inl e) ih = (y, List·Memᴰ·head refl, e)
+      go (inr e) ih = let r = ih (sym (any-no y ys e) ∙ h) in (r .0, List·Memᴰ·tail (r .1), r .2)
+
+  pub keep-none : keep p [] ≡ []
+  unfolding keep
+  keep-none = refl
+
+  pub keep-yes : (x : A) (xs : List A) → p x ≡ true → keep p (x ∷ xs) ≡ x ∷ keep p xs
+  unfolding keep
+  keep-yes x xs e = rw (e, keep)
+
+  pub keep-no : (x : A) (xs : List A) → p x ≡ false → keep p (x ∷ xs) ≡ keep p xs
+  unfolding keep
+  keep-no x xs e = rw (e, keep)
+
+  pub keep-mem : (xs : List A) (y : A) → List·Memᴰ y xs → p y ≡ true → List·Memᴰ y (keep p xs)
+  keep-mem [] y m h = absurd (List·Memᴰ·not-nil m)
+  keep-mem (x ∷ xs) y m h = go (split (p x)) (List·Memᴰ·cases-cons m) (keep-mem xs y)
+    where
+      go : (p x ≡ true) ⊎ (p x ≡ false) → (y ≡ x) ⊎ List·Memᴰ y xs → (List·Memᴰ y xs → p y ≡ true → List·Memᴰ y (keep p xs)) → List·Memᴰ y (keep p (x ∷ xs))
+      go (inl e) (inl q) ih = rw (keep-yes x xs e) (List·Memᴰ·head q)
+      go (inl e) (inr n) ih = rw (keep-yes x xs e) (List·Memᴰ·tail (ih n h))
+      go (inr e) (inl q) ih = clash h (rw q e)
+      go (inr e) (inr n) ih = rw (keep-no x xs e) (ih n h)
+
+  pub mem-keep : (xs : List A) (y : A) → List·Memᴰ y (keep p xs) → List·Memᴰ y xs × (p y ≡ true)
+  mem-keep [] y m = absurd (List·Memᴰ·not-nil (rw keep-none at m))
+  mem-keep (x ∷ xs) y m = go (split (p x)) (mem-keep xs y)
+    where
+      here : (p x ≡ true) → (y ≡ x) ⊎ List·Memᴰ y (keep p xs) → (List·Memᴰ y (keep p xs) → List·Memᴰ y xs × (p y ≡ true)) → List·Memᴰ y (x ∷ xs) × (p y ≡ true)
+      here e (inl q) ih = (List·Memᴰ·head q, rw q e)
+      here e (inr n) ih = let r = ih n in (List·Memᴰ·tail (r .0), r .1)
+
+      go : (p x ≡ true) ⊎ (p x ≡ false) → (List·Memᴰ y (keep p xs) → List·Memᴰ y xs × (p y ≡ true)) → List·Memᴰ y (x ∷ xs) × (p y ≡ true)
+      go (inl e) ih = here e (List·Memᴰ·cases-cons (rw (keep-yes x xs e) at m)) ih
+      go (inr e) ih = let r = ih (rw (keep-no x xs e) at m) in (List·Memᴰ·tail (r .0), r .1)
+
+-- a member of the second list passes with one of the first
+module _ {A B : Type 0} (p : A → B → Bool) where
+  pub pairwise-mem : (xs : List A) (ys : List B) → pairwise p xs ys ≡ true → (y : B) → List·Memᴰ y ys → (x : A) × (p x y ≡ true)
+  unfolding pairwise
+  pairwise-mem [] [] h y m = absurd (List·Memᴰ·not-nil m)
+  pairwise-mem [] (z ∷ ys) h y m = clash h refl
+  pairwise-mem (x ∷ xs) [] h y m = clash h refl
+  pairwise-mem (x ∷ xs) (z ∷ ys) h y m = go (split (p x z)) (List·Memᴰ·cases-cons m) (pairwise-mem xs ys)
+    where
+      go : (p x z ≡ true) ⊎ (p x z ≡ false) → (y ≡ z) ⊎ List·Memᴰ y ys → (pairwise p xs ys ≡ true → (y : B) → List·Memᴰ y ys → (x : A) × (p x y ≡ true)) → (x : A) × (p x y ≡ true)
+      go (inl e) (inl q) ih = (x, rw q e)
+      go (inl e) (inr n) ih = ih (sym (pairwise-yes p x xs z ys e) ∙ h) y n
+      go (inr e) n ih = clash h (pairwise-no p x xs z ys e)
+
+-- what stands at a place is a member
+pub getD-mem : {A : Type 0} (xs : List A) (k : ℕ) (d : A) → k < length xs → List·Memᴰ (getD xs k d) xs
+getD-mem [] k d h = absurd (omega arith)
+getD-mem (x ∷ xs) zero d h = List·Memᴰ·head refl
+getD-mem (x ∷ xs) (suc k) d h = List·Memᴰ·tail (getD-mem xs k d (omega arith))
+
+-- a test of some image is one of some member
+pub any-map : {A B : Type 0} (p : B → Bool) (f : A → B) (xs : List A) → any p (map f xs) ≡ any (λ (x : A). p (f x)) xs
+unfolding any
+any-map p f [] = refl
+any-map p f (x ∷ xs) = go (split (p (f x))) (any-map p f xs)
+  where
+    go : (p (f x) ≡ true) ⊎ (p (f x) ≡ false) → any p (map f xs) ≡ any (λ y. p (f y)) xs → any p (map f (x ∷ xs)) ≡ any (λ y. p (f y)) (x ∷ xs)
+    go (inl e) ih = any-yes p (f x) (map f xs) e ∙ sym (any-yes (λ y. p (f y)) x xs e)
+    go (inr e) ih = any-no p (f x) (map f xs) e ∙ ih ∙ sym (any-no (λ y. p (f y)) x xs e)
+
+-- the members that pass, with one member more
+module _ {A : Type 0} (p : A → Bool) where
+  pub keep-more : (xs : List A) (x : A) → p x ≡ true → keep p (xs ++ x ∷ []) ≡ keep p xs ++ x ∷ []
+  unfolding keep
+  keep-more [] x t = rw (t, keep)
+  keep-more (y ∷ ys) x t = go (split (p y)) (keep-more ys x t)
+    where
+      go : (p y ≡ true) ⊎ (p y ≡ false) → keep p (ys ++ x ∷ []) ≡ keep p ys ++ x ∷ [] → keep p (y ∷ ys ++ x ∷ []) ≡ keep p (y ∷ ys) ++ x ∷ []
+      go (inl e) ih = rw (keep-yes p y (ys ++ x ∷ []) e, keep-yes p y ys e, ih)
+      go (inr e) ih = rw (keep-no p y (ys ++ x ∷ []) e, keep-no p y ys e, ih)
+
+  pub keep-past : (xs : List A) (x : A) → p x ≡ false → keep p (xs ++ x ∷ []) ≡ keep p xs
+  unfolding keep
+  keep-past [] x f = rw (f, keep)
+  keep-past (y ∷ ys) x f = go (split (p y)) (keep-past ys x f)
+    where
+      go : (p y ≡ true) ⊎ (p y ≡ false) → keep p (ys ++ x ∷ []) ≡ keep p ys → keep p (y ∷ ys ++ x ∷ []) ≡ keep p (y ∷ ys)
+      go (inl e) ih = rw (keep-yes p y (ys ++ x ∷ []) e, keep-yes p y ys e, ih)
+      go (inr e) ih = rw (keep-no p y (ys ++ x ∷ []) e, keep-no p y ys e, ih)
+
+-- inside a list it does not matter what stands for a member that is missing
+pub getD-inside : {A : Type 0} (xs : List A) (i : ℕ) (d e : A) → i < length xs → getD xs i d ≡ getD xs i e
+getD-inside xs i d e h = let p = drop-cons xs i d h in let q = drop-cons xs i e h in cc
+
+-- a member of a list of numbers stands at some place
+pub mem-place : (xs : List ℕ) (x : ℕ) → List·Memᴰ x xs → (i : ℕ) × (i < length xs) × (x ≡ getD xs i 0)
+mem-place [] x m = absurd (List·Memᴰ·not-nil m)
+mem-place (y ∷ xs) x m = go (List·Memᴰ·cases-cons m) (mem-place xs x)
+  where
+    go : (x ≡ y) ⊎ List·Memᴰ x xs → (List·Memᴰ x xs → (i : ℕ) × (i < length xs) × (x ≡ getD xs i 0)) → (i : ℕ) × (i < suc (length xs)) × (x ≡ getD (y ∷ xs) i 0)
+    go (inl e) ih = (0, omega arith, e)
+    go (inr n) ih = let r = ih n in (suc (r .0), omega (arith, r .1), r .2)
+
+pub take-replicate : {A : Type 0} (n m : ℕ) (x : A) → n ≤ m → take n (replicate m x) ≡ replicate n x
+take-replicate zero m x h = refl
+take-replicate (suc n) zero x h = absurd (omega arith)
+take-replicate (suc n) (suc m) x h = rw (take-replicate n m x (omega arith))

@@ -1,9 +1,9 @@
 -- The laws of `sum` and `upFrom`, and of a test of all the numbers that `upFrom` lists. Assumes nothing.
 use Prim.Native.Nat.{ℕ, zero, suc, _+_, _-_, _<_, _≤_}
-use mathlib.Core.Path.{_≡_}
+use mathlib.Core.Path.{_≡_, refl, sym, ap, _∙_}
 use mathlib.Core.Bool.{Bool, true, false}
-use mathlib.Core.List.{List, [], _∷_, List·Memᴰ, List·Memᴰ·head, List·Memᴰ·tail}
-use mathlib.Core.Logic.{by-cases}
+use mathlib.Core.List.{List, [], _∷_, _++_, List·Memᴰ, List·Memᴰ·head, List·Memᴰ·tail, List·Memᴰ·cases-cons, List·Memᴰ·not-nil}
+use mathlib.Core.Logic.{_⊎_, inl, inr, by-cases}
 use native.Mathlib.Omega.{arith}
 use native.Mathlib.Numerals.{add-one}
 use native.Mathlib.Decide.{ℕ-discrete}
@@ -49,3 +49,41 @@ module _ (p : ℕ → Bool) (i n : ℕ) where
 
   pub allUp-end : n ≤ i → all p (upFrom i (n - i)) ≡ true
   allUp-end h = rw (upFrom-end i n h) (all-none p)
+
+pub length-upFrom : (i n : ℕ) → length (upFrom i n) ≡ n
+unfolding upFrom
+length-upFrom i zero = refl
+length-upFrom i (suc n) = ap suc (length-upFrom (suc i) n)
+
+-- one number more
+pub upFrom-more : (i n : ℕ) → upFrom i (suc n) ≡ upFrom i n ++ (i + n) ∷ []
+unfolding upFrom
+upFrom-more i zero = let e : i + 0 ≡ i = omega arith in rw e
+upFrom-more i (suc n) = let e : i + suc n ≡ suc i + n = omega arith in rw e (ap (λ (l : List ℕ). i ∷ l) (upFrom-more (suc i) n))
+
+-- the members of a run of numbers
+pub mem-upFrom : (i n x : ℕ) → List·Memᴰ x (upFrom i n) → (i ≤ x) × (x < i + n)
+unfolding upFrom
+mem-upFrom i zero x m = absurd (List·Memᴰ·not-nil m)
+mem-upFrom i (suc n) x m = go (List·Memᴰ·cases-cons m) (mem-upFrom (suc i) n x)
+  where
+    go : (x ≡ i) ⊎ List·Memᴰ x (upFrom (suc i) n) → (List·Memᴰ x (upFrom (suc i) n) → (suc i ≤ x) × (x < suc i + n)) → (i ≤ x) × (x < i + suc n)
+    go (inl e) ih = (omega arith, omega arith)
+    go (inr k) ih = let r = ih k in (omega arith, omega arith)
+
+-- the numbers from i on below n pass as all below n do
+pub record UpFrom (p : ℕ → Bool) (n i : ℕ) : Type 0 where
+  pub same : all p (upFrom i (n - i)) ≡ all p (upFrom 0 n)
+
+pub up-from : (p : ℕ → Bool) (n : ℕ) → UpFrom p n 0
+up-from p n = record { same = let e : n - 0 ≡ n = omega arith in rw e }
+
+module _ {p : ℕ → Bool} {n i : ℕ} (from : UpFrom p n i) where
+  pub up-passed : i < n → p i ≡ true → UpFrom p n (i + 1)
+  up-passed h t = record { same = sym (allUp-next p i n h t) ∙ from .same }
+
+  pub up-failed : i < n → p i ≡ false → false ≡ all p (upFrom 0 n)
+  up-failed h f = sym (allUp-stop p i n h f) ∙ from .same
+
+  pub up-over : n ≤ i → true ≡ all p (upFrom 0 n)
+  up-over h = sym (allUp-end p i n h) ∙ from .same

@@ -13,6 +13,7 @@ use lib.ListN.{length, getD, drop, drop-of-length-le}
 use lib.Seq.{drop-cons}
 use Rattle.lists.specs.Order.{sameRow, rowBefore, ascendingFrom, ascending}
 use Rattle.lists.specs.Part.{part, rowsOf}
+use Rattle.lists.proofs.Laws.Tests.{same-test}
 use Rattle.lists.proofs.Laws.Every.{pairwise-equal, pairwise-refl}
 use Rattle.lists.proofs.Laws.Part.{rowsOf-next, rowsOf-end}
 
@@ -105,3 +106,7 @@ module _ (a : ℕ) (s : List ℕ) where
     pub ascending-end : left ≤ 0 → ascendingAt a s at left ≡ true
     unfolding ascendingAt
     ascending-end h = ap (ascendingFrom (part s at a)) (rowsOf-end a s (at + a) left h) ∙ ascendingFrom-none (part s at a)
+
+-- which of two rows is asked about first does not matter
+pub same-either : (x y : List ℕ) → sameRow x y ≡ sameRow y x
+same-either x y = same-test (sameRow x y) (sameRow y x) (λ h. rw (same-row x y h) (same-row-refl y)) (λ h. rw (same-row y x h) (same-row-refl x))

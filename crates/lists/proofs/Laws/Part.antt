@@ -2,14 +2,14 @@
 use Prim.Native.Nat.{ℕ, zero, suc, _+_, _-_, _*_, _<_, _≤_}
 use mathlib.Core.Path.{_≡_, refl, sym, ap, _∙_}
 use mathlib.Core.Bool.{Bool, true, false}
-use mathlib.Core.List.{List, [], _∷_}
+use mathlib.Core.List.{List, [], _∷_, _++_}
 use native.Mathlib.Omega.{arith}
 use native.Mathlib.Nat.{suc-mul}
 use lib.ListN.{length, getD, take, drop, length-take, length-drop}
 use lib.Seq.{drop-drop, take-all, take-take, take-nil, getD-take, getD-drop}
-use Rattle.lists.specs.Every.{all}
+use Rattle.lists.specs.Every.{all, any}
 use Rattle.lists.specs.Part.{part, rowsOf}
-use Rattle.lists.proofs.Laws.Every.{all-none, all-yes, all-no}
+use Rattle.lists.proofs.Laws.Every.{all-none, all-yes, all-no, any-none, any-yes, any-no}
 
 -- a product with one row less
 pub rows-less : (c a : ℕ) → 0 < c → c * a ≡ a + (c - 1) * a
@@ -129,3 +129,43 @@ getD-rowsOf a (suc c) s zero d h = let e : 0 * a ≡ 0 = omega arith in rw e
 getD-rowsOf a (suc c) s (suc i) d h =
     let e : a + i * a ≡ suc i * a = omega (arith, suc-mul i a) in
     getD-rowsOf a c (drop a s) i d (omega arith) ∙ ap (take a) (drop-drop (i * a) a s) ∙ ap (λ (k : ℕ). part s k a) e
+
+-- Loops over an offset that answer true at the first row that passes. What is known before each turn is one record: `left` of the c rows of a members
+-- are left from the offset `at` on, they lie in s, and one of them passes where one of all rows does. A row is handed on by its ends, as
+-- `&s[at..at + a]`.
+module _ {A : Type 0} where
+  pub record SomeRow (p : List A → Bool) (a c : ℕ) (s : List A) (left at : ℕ) : Type 0 where
+    pub fits : at + left * a ≤ length s
+    pub same : any p (rowsOf a left (drop at s)) ≡ any p (rowsOf a c s)
+
+  pub some-from : (p : List A → Bool) (a c : ℕ) (s : List A) → c * a ≤ length s → SomeRow p a c s c 0
+  some-from p a c s h = record { fits = omega arith; same = refl }
+
+  module _ {p : List A → Bool} {a c left at : ℕ} {s : List A} (from : SomeRow p a c s left at) where
+    pub some-over : left ≤ 0 → false ≡ any p (rowsOf a c s)
+    some-over h = sym (ap (any p) (rowsOf-end a s at left h) ∙ any-none p) ∙ from .same
+
+    module _ (h : 0 < left) where
+      pub some-fits : at + a ≤ length s
+      some-fits = omega (arith, from .fits, rows-less left a h)
+
+      here : any p (part s at (at + a - at) ∷ rowsOf a (left - 1) (drop (at + a) s)) ≡ any p (rowsOf a c s)
+      here = ap (λ r. any p (r ∷ rowsOf a (left - 1) (drop (at + a) s))) (part-ends s at a) ∙ sym (ap (any p) (rowsOf-next a s at left h)) ∙ from .same
+
+      pub some-found : p (part s at (at + a - at)) ≡ true → true ≡ any p (rowsOf a c s)
+      some-found t = sym (any-yes p _ _ t) ∙ here
+
+      pub some-passed : p (part s at (at + a - at)) ≡ false → SomeRow p a c s (left - 1) (at + a)
+      some-passed f = record {
+        fits = omega (arith, from .fits, rows-less left a h);
+        same = sym (any-no p _ _ f) ∙ here;
+      }
+
+-- one row more
+pub rowsOf-more : {A : Type 0} (a c : ℕ) (s : List A) → rowsOf a (suc c) s ≡ rowsOf a c s ++ part s (c * a) a ∷ []
+unfolding rowsOf
+rowsOf-more a zero s = let e : 0 * a ≡ 0 = omega arith in rw e
+rowsOf-more a (suc c) s =
+    let e : a + c * a ≡ suc c * a = omega (arith, suc-mul c a) in
+    ap (λ rows. take a s ∷ rows) (rowsOf-more a c (drop a s))
+    ∙ ap (λ r. take a s ∷ (rowsOf a c (drop a s) ++ r ∷ [])) (ap (take a) (drop-drop (c * a) a s) ∙ ap (λ (k : ℕ). part s k a) e)

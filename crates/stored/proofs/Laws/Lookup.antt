@@ -2,6 +2,7 @@
 use Prim.Native.Nat.{ℕ, _+_, _-_, _*_, _<_, _≤_}
 use mathlib.Core.Path.{_≡_, sym, _∙_, ap}
 use mathlib.Core.List.{List, []}
+use native.Mathlib.Omega.{arith}
 use lib.ListN.{length, getD}
 use Rattle.lists.specs.Part.{part, rowsOf}
 use Rattle.lists.proofs.Laws.Part.{getD-part, part-ends, getD-rowsOf}
@@ -9,9 +10,11 @@ use Rattle.stored.specs.Limits.{maxTypes}
 use Rattle.stored.specs.Model.{size, rootOf}
 use Rattle.stored.specs.Relation.{entryAt}
 use Rattle.stored.specs.Layout.{rootsStart, rootsEnd}
-use Rattle.stored.specs.Reading.{Holds, modelOf}
+use Rattle.stored.specs.declared.layout.Layout.{Layout}
+use Rattle.stored.specs.Reading.{Holds, modelOf, Reads}
 use Rattle.stored.proofs.Laws.Types.{types-length}
 use Rattle.stored.proofs.Laws.Parse.{Accepted, parse-accepted}
+use Rattle.stored.proofs.Laws.Reading.{roots-is, size-is, roots-inside, reads-formed}
 
 -- a file that holds a model
 module _ (s : List ℕ) (h : Holds s) where
@@ -42,3 +45,14 @@ module _ (a c : ℕ) (rows : List ℕ) (i : ℕ) (h : i < c) where
 -- an entry where it stands
 pub entry-there : (a : ℕ) (rows : List ℕ) (i j : ℕ) → j < a → getD rows (i * a + j) 0 ≡ entryAt a rows i j
 entry-there a rows i j h = sym (getD-part rows (i * a) a j 0 h)
+
+-- the representative of an element, looked up where the layout says
+module _ (s : List ℕ) (l : Layout) (reads : Reads s l) (x : ℕ) (h : x < size (modelOf s)) where
+  pub root-inside : l .roots + x < length s
+  root-inside = omega (arith, roots-inside s l reads, size-is s l reads)
+
+  pub root-at : getD s (l .roots + x) 0 ≡ rootOf (modelOf s) x
+  root-at = ap (λ (r : ℕ). getD s (r + x) 0) (roots-is s l reads) ∙ root-there s (reads .accepted) x h
+
+  pub root-at-known : getD s (l .roots + x) 0 < size (modelOf s)
+  root-at-known = rw root-at (reads-formed s l reads .root-known x h)

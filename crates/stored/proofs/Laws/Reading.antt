@@ -8,6 +8,7 @@ use lib.ListN.{length, getD, replicate, length-map, List·getD-map}
 use Rattle.lists.specs.Numbers.{sum}
 use Rattle.lists.specs.Part.{part, over}
 use Rattle.lists.proofs.Laws.Over.{getD-over}
+use Rattle.stored.specs.declared.refusal.Fault.{Fault}
 use Rattle.stored.specs.declared.layout.Layout.{Layout}
 use Rattle.stored.specs.declared.read.Answer.the-variants as answer
 use Rattle.stored.specs.declared.read.Reading.{Reading}
@@ -33,6 +34,20 @@ reading-reads s r e h = go (parse s) refl
     go : (p : Parsed) → parse s ≡ p → Reads s (r .layout)
     go (model m) q = record { accepted = rw q; there = ap (λ (x : Reading). x .layout) (rw q at e) ∙ rw q }
     go (fault f) q = let z : answer.Fault f ≡ answer.Model = sym (ap (λ (x : Reading). x .answer) (rw q at e)) ∙ h in let y : _≡_ {A = ℕ} 0 1 = cc in absurd (omega arith)
+
+-- a file that was parsed is one that was read, with its model's layout
+pub model-reads : (s : List ℕ) (m : Model) → parse s ≡ model m → Reads s (layoutOf m)
+unfolding modelIn
+model-reads s m e = let k : modelOf s ≡ m = rw e in record { accepted = e ∙ ap model (sym k); there = ap layoutOf (sym k) }
+
+-- a reading that answers a fault is one of a file with that fault
+pub reading-faults : (s : List ℕ) (r : Reading) (f : Fault) → r ≡ readingOf (parse s) → r .answer ≡ answer.Fault f → parse s ≡ fault f
+unfolding readingOf refusedWith
+reading-faults s r f e h = go (parse s) refl
+  where
+    go : (p : Parsed) → parse s ≡ p → parse s ≡ fault f
+    go (model m) q = let z : answer.Model ≡ answer.Fault f = sym (ap (λ (x : Reading). x .answer) (rw q at e)) ∙ h in let y : _≡_ {A = ℕ} 0 1 = cc in absurd (omega arith)
+    go (fault g) q = let z : answer.Fault g ≡ answer.Fault f = sym (ap (λ (x : Reading). x .answer) (rw q at e)) ∙ h in q ∙ cc
 
 -- where a relation stands
 pub record RelationThere (s : List ℕ) (l : Layout) (k : ℕ) (r : Rel) : Type 0 where

@@ -1,0 +1,12 @@
+pub mod Rows
+pub mod Maps
+pub mod Pairs
+pub mod Answer
+pub mod Files
+pub mod Given
+pub mod Outcome
+pub mod Check
+pub mod Identity
+pub mod Apply
+pub mod Compose
+pub mod Inverse

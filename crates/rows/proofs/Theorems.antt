@@ -1,0 +1,6 @@
+pub mod Through
+pub mod Maps
+pub mod Inverse
+pub mod Pairs
+pub mod Check
+pub mod Answers

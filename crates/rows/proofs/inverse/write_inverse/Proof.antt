@@ -1,0 +1,55 @@
+-- `rows::inverse::write_inverse` meets its contract. The invariant: the entries of the elements below y are written over the front; the measure is the
+-- number of elements left. Assumes nothing.
+use Prim.Native.Nat.{_-_}
+use native.Mathlib.Omega.{arith}
+use borrow.Author.Needs.{needs}
+use lib.ListN.{length}
+use Rattle.rows.specs.Maps.{inverseEntry}
+use Rattle.lists.proofs.Laws.Entries.{WrittenTo, written-none, written-length, written-room, written-more, written-all}
+use Rattle.rows.proofs.inverse.write_inverse.Statement.{statement}
+use Rattle.rows.proofs.inverse.write_inverse.Tie as tie
+
+abbrev Inv-loop : tie.InvT-loop
+Inv-loop roots map out₀ y₀ out y = WrittenTo (inverseEntry roots map) (length roots) out₀ y out
+
+abbrev μ-loop : tie.MeasureT-loop
+μ-loop roots map out₀ y₀ out y = length roots - y
+
+loop-holds : tie.Need-loop-holds Inv-loop μ-loop
+loop-holds c = written-none _ _ _ (c .before .before .before .pre .0)
+
+inverse-entry-requires : tie.Need-inverse-entry-requires Inv-loop μ-loop
+inverse-entry-requires c κs = let p = c .before .before .before .before .before .pre in (omega arith, p .2)
+
+slice-write-out : tie.Need-slice-write-out Inv-loop μ-loop
+slice-write-out c = written-room (c .before .before .loop .inv) (c .before .loop-test .taken)
+
+add-y : tie.Need-add-y Inv-loop μ-loop
+add-y c = search needs
+
+loop-less : tie.Need-loop-less Inv-loop μ-loop
+loop-less c = search needs
+
+loop-again : tie.Need-loop-again Inv-loop μ-loop
+loop-again c = written-more (c .before .before .loop .inv) _ (c .before .loop-test .taken) (c .inverse-entry .ensures)
+
+same-length : tie.Need-same-length Inv-loop μ-loop
+same-length c = written-length (c .before .loop .inv)
+
+returns : tie.Need-returns Inv-loop μ-loop
+returns c = written-all (c .before .loop .inv) (c .loop-test .left)
+
+pub write-inverse-spec : {M : Type 1} → statement M
+write-inverse-spec =
+    tie.close
+    (tie.spec
+    Inv-loop
+    μ-loop
+    loop-holds
+    inverse-entry-requires
+    slice-write-out
+    add-y
+    loop-less
+    loop-again
+    same-length
+    returns)

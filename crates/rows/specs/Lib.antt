@@ -1,0 +1,11 @@
+-- In the order of the document: normalised rows and what it is to keep a relation; maps; pair lists; the files of a call; each call's answer.
+pub mod Rows
+pub mod Maps
+pub mod Pairs
+pub mod Answer
+pub mod Files
+pub mod Check
+pub mod Identity
+pub mod Apply
+pub mod Compose
+pub mod Inverse

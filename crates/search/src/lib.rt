@@ -1,0 +1,2 @@
+// The search: find, find with pairs, find under a base.
+pub mod answer;

@@ -1,0 +1,45 @@
+// A program that replays a list of calls: standard input has one call a line, and its answer goes to standard output, a line for each. A
+// call is its name and its arguments, between single spaces:
+//
+//     identity MODEL LENGTH
+//     check SOURCE TARGET PAIRS LENGTH
+//     apply SOURCE TARGET MAP ELEMENT
+//     compose SOURCE MIDDLE TARGET MAP MAP LENGTH
+//     inverse SOURCE TARGET MAP LENGTH
+//
+// Files, pair lists and maps are bytes in hex, `_` where there are none; an element is one byte in hex; a length, in decimal, is that of
+// the output that is lent, each byte of it a5 before the call. The answer is its number and the values it carries, then, of each call but
+// apply, `map` and all of the output after the call. For any other line it prints `?`.
+mod answer;
+mod apply;
+mod arguments;
+mod bytes;
+mod check;
+mod compose;
+mod identity;
+mod inverse;
+mod lines;
+mod numbers;
+mod room;
+mod words;
+
+ghost use mathlib.Core.Path.{_≡_};
+ghost use lib.ListN.{length};
+
+// Room for all of standard input. The `ensures` gives only the length, which lending the array as a slice needs.
+fn input_buffer() -> [u8; 524288]
+    ensures { λ r. ⌜ 524288 ≡ length r ⌝ }
+{
+    [0; 524288]
+}
+
+// An input of 524,288 bytes or more is not replayed, since it may go on past the buffer.
+fn main() {
+    let mut buf = input_buffer();
+    let n = io::read_full(libc::STDIN_FILENO, &mut buf);
+    if n < 524288 {
+        lines::replay_all(&buf[..n]);
+    } else {
+        io::write_all(libc::STDOUT_FILENO, b"too many calls\n");
+    }
+}
