@@ -8,3 +8,6 @@ pub mod Part
 pub mod Over
 pub mod Entries
 pub mod Sets
+pub mod Counting
+pub mod Different
+pub mod Below

@@ -1,12 +1,12 @@
 -- "Of the smallest left class with two or more members (ties: lowest colour) take the lowest element."
 use Prim.Native.Nat.{ℕ, zero, suc}
-use mathlib.Core.Bool.{Bool, true, false}
+use mathlib.Core.Bool.{true, false, _&&_}
 use mathlib.Core.List.{List, [], _∷_}
 use lib.ListN.{length}
 use lib.Dec.{eqb, ltb, leb}
 use Rattle.lists.specs.Every.{howMany}
 use Rattle.lists.specs.First.{lowest}
-use Rattle.stored.specs.Model.{Model, size}
+use Rattle.stored.specs.Model.{Model, size, isRep}
 use Rattle.rounds.specs.Colours.{colourAt}
 use Rattle.rounds.specs.Round.{coloursOf}
 
@@ -32,6 +32,6 @@ smallestFrom colours k (suc n) = elim (ltb (howMany (eqb k) colours) 2) [
 unfoldable pub smallestOpen : Model → List ℕ → Open
 smallestOpen a left = smallestFrom (coloursOf a left) 0 (length (coloursOf a left))
 
--- the lowest element of a colour
+-- the lowest representative of a colour
 unfoldable pub lowestOf : Model → List ℕ → ℕ → ℕ
-lowestOf a left k = lowest (λ (x : ℕ). eqb (colourAt left x) k) 0 (size a)
+lowestOf a left k = lowest (λ (x : ℕ). isRep a x && eqb (colourAt left x) k) 0 (size a)

@@ -1,4 +1,5 @@
 pub mod Through
+pub mod Among
 pub mod Maps
 pub mod Inverse
 pub mod Pairs

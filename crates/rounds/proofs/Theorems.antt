@@ -1,0 +1,9 @@
+pub mod Keys
+pub mod Refining
+pub mod Alive
+pub mod Carrying
+pub mod Counts
+pub mod Classes
+pub mod Single
+pub mod Members
+pub mod Starting
