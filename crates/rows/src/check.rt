@@ -41,16 +41,17 @@ fn first_missing(roots: &[u8], images: &[u8]) -> usize
     requires { ⌜ length (now images) ≡ length (now roots) ⌝ }
     ensures { λ r. ⌜ r ≡ lowest (isMissing (now (roots .entry)) (now (images .entry))) 0 (length (now (roots .entry))) ⌝ }
 {
-    let mut x: usize = 0;
-    while x < roots.len() {
+    let mut left = roots.len();
+    while 0 < left {
+        let x = roots.len() - left;
         if images[x] == 255 {
             if is_rep(roots, x) {
                 return x;
             }
         }
-        x += 1;
+        left -= 1;
     }
-    x
+    roots.len()
 }
 
 // Whether images that were given make a map: every class has one, every relation is kept.

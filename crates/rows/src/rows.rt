@@ -43,8 +43,10 @@ pub(crate) fn agree(table: &[u8], row: &[u8], other_table: &[u8], other: &[u8]) 
     }
     let mut j: usize = 0;
     while j < row.len() {
-        let x = look(table, row[j]);
-        let y = look(other_table, other[j]);
+        let entry = row[j];
+        let other_entry = other[j];
+        let x = look(table, entry);
+        let y = look(other_table, other_entry);
         if x != y {
             return false;
         }

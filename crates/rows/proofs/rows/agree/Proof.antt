@@ -66,14 +66,14 @@ returns c = unequal _ _ _ _ (c .if1 .taken)
 loop-holds : tie.Need-loop-holds Inv-loop μ-loop
 loop-holds c = start _ _ _ _ (c .if1 .left)
 
-shared-slice-read-look : tie.Need-shared-slice-read-look Inv-loop μ-loop
-shared-slice-read-look c = search needs
+shared-slice-read-entry : tie.Need-shared-slice-read-entry Inv-loop μ-loop
+shared-slice-read-entry c = search needs
+
+shared-slice-read-other-entry : tie.Need-shared-slice-read-other-entry Inv-loop μ-loop
+shared-slice-read-other-entry c = let k = c .before .before in other-inside _ _ _ _ _ (k .before .loop .inv) (k .loop-test .taken)
 
 look-requires : tie.Need-look-requires Inv-loop μ-loop
 look-requires c κs = tt
-
-shared-slice-read-look-2 : tie.Need-shared-slice-read-look-2 Inv-loop μ-loop
-shared-slice-read-look-2 c = let k = c .before .before .before in other-inside _ _ _ _ _ (k .before .loop .inv) (k .loop-test .taken)
 
 look-requires-2 : tie.Need-look-requires-2 Inv-loop μ-loop
 look-requires-2 c κs = tt
@@ -81,7 +81,7 @@ look-requires-2 c κs = tt
 returns-2 : tie.Need-returns-2 Inv-loop μ-loop
 returns-2 c =
     let k = c .before .before .before .before .before in
-    stop _ _ _ _ _ (k .before .loop .inv) (k .loop-test .taken) _ _ (c .before .before .before .look .ensures) (c .before .look2 .ensures) (c .if2 .taken)
+    stop _ _ _ _ _ (k .before .loop .inv) (k .loop-test .taken) _ _ (c .before .before .look .ensures) (c .before .look2 .ensures) (c .if2 .taken)
 
 add-j : tie.Need-add-j Inv-loop μ-loop
 add-j c = search needs
@@ -92,7 +92,7 @@ loop-less c = search needs
 loop-again : tie.Need-loop-again Inv-loop μ-loop
 loop-again c =
     let k = c .before .before .before .before .before in
-    more _ _ _ _ _ (k .before .loop .inv) (k .loop-test .taken) _ _ (c .before .before .before .look .ensures) (c .before .look2 .ensures) (c .if2 .left)
+    more _ _ _ _ _ (k .before .loop .inv) (k .loop-test .taken) _ _ (c .before .before .look .ensures) (c .before .look2 .ensures) (c .if2 .left)
 
 returns-3 : tie.Need-returns-3 Inv-loop μ-loop
 returns-3 c = done _ _ _ _ _ (c .before .loop .inv) (c .loop-test .left)
@@ -105,9 +105,9 @@ agree-spec =
     μ-loop
     returns
     loop-holds
-    shared-slice-read-look
+    shared-slice-read-entry
+    shared-slice-read-other-entry
     look-requires
-    shared-slice-read-look-2
     look-requires-2
     returns-2
     add-j
