@@ -11,3 +11,5 @@ pub mod Sets
 pub mod Counting
 pub mod Different
 pub mod Below
+pub mod Groups
+pub mod Chunk

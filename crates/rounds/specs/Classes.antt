@@ -7,6 +7,8 @@ use lib.Dec.{eqb, ltb, leb}
 use Rattle.lists.specs.Every.{howMany}
 use Rattle.lists.specs.First.{lowest}
 use Rattle.stored.specs.Model.{Model, size, isRep}
+use Rattle.rounds.specs.declared.classes.Open.{Open as Found}
+use Rattle.rounds.specs.declared.classes.Open.the-variants as found
 use Rattle.rounds.specs.Colours.{colourAt}
 use Rattle.rounds.specs.Round.{coloursOf}
 
@@ -14,6 +16,11 @@ use Rattle.rounds.specs.Round.{coloursOf}
 pub data Open : Type 0 where
   allSingle : Open
   openAt : ℕ → Open
+
+-- what a function that looks for one answers
+unfoldable pub openOf : Found → Open
+openOf found.AllSingle = allSingle
+openOf (found.At k) = openAt (k .0)
 
 -- the smaller of two classes, the first of them where they are as large
 unfoldable pub smaller : List ℕ → ℕ → Open → Open

@@ -20,7 +20,7 @@ use stored::model::Element;
 use stored::types::type_in;
 
 // No images yet.
-pub(crate) fn no_images() -> [u8; 64]
+pub fn no_images() -> [u8; 64]
     ensures { λ r. ⌜ r ≡ blank 64 ⌝ }
 {
     [255u8; 64]

@@ -47,7 +47,7 @@ pub fn pair_at(
 }
 
 // Whether another image was given before.
-fn conflict(images: &[u8], x: usize, y: u8) -> bool
+pub fn conflict(images: &[u8], x: usize, y: u8) -> bool
     requires { ⌜ x < length (now images) ⌝ }
     ensures { λ r. ⌜ r ≡ conflicts (now (images .entry)) x y ⌝ }
 {

@@ -1,2 +1,14 @@
 pub mod Run
 pub mod Types
+pub mod Work
+pub mod Reps
+pub mod Pairs
+pub mod Alike
+pub mod Closing
+pub mod Choices
+pub mod Refine
+pub mod Outcome
+pub mod Find
+pub mod Tables
+pub mod Machine
+pub mod Start

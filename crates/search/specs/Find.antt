@@ -7,6 +7,7 @@ use lib.Dec.{eqb, ltb}
 use Rattle.lists.specs.Every.{all}
 use Rattle.lists.specs.Numbers.{upFrom}
 use Rattle.stored.specs.declared.refusal.Refusal.the-variants.{NoRoom, NotCanonical, SignaturesDiffer, OddPairs, NotAMap}
+use Rattle.stored.specs.declared.layout.Layout.{Layout}
 use Rattle.stored.specs.Model.{Model, size, relationAt}
 use Rattle.stored.specs.Canonical.{canonical}
 use Rattle.stored.specs.Signature.{signature, sameSignature}
@@ -28,6 +29,10 @@ roundCost = 1
 -- "If the total numbers of classes differ, or a relation's row counts, or one element is paired with two, the answer is 1 with 0 units."
 unfoldable pub sameRowCount : Model → Model → ℕ → Bool
 sameRowCount a b k = eqb (length (relationAt a k .rows)) (length (relationAt b k .rows))
+
+-- the same by the row counts of two layouts
+unfoldable pub sameCountIn : Layout → Layout → ℕ → Bool
+sameCountIn l m k = eqb (getD (l .count) k 0) (getD (m .count) k 0)
 
 unfoldable pub alike : Model → Model → Bool
 alike a b = eqb (length (reps a)) (length (reps b)) && all (sameRowCount a b) (upFrom 0 (length (a .relations)))

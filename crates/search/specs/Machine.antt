@@ -7,7 +7,7 @@ use lib.Dec.{leb, eqb}
 use Rattle.lists.specs.Every.{all}
 use Rattle.lists.specs.First.{lowest}
 use Rattle.lists.specs.Numbers.{upFrom}
-use Rattle.stored.specs.Model.{Model, size, isRep, relationAt}
+use Rattle.stored.specs.Model.{Model, size, isRepIn, isRep, relationAt}
 use Rattle.rows.specs.Rows.{through, hasRow}
 use Rattle.rounds.specs.Colours.{colourAt}
 use Rattle.rounds.specs.Round.{reps, Sides, Outcome, dead, stable, again, colourCount, roundOutcome}
@@ -36,6 +36,13 @@ pub data Step : Type 0 where
 -- "equal colours give the map"
 unfoldable pub imageOf : Model → Model → Sides → ℕ → ℕ
 imageOf a b c x = elim (isRep a x) [ true ↦ lowest (λ (y : ℕ). isRep b y && eqb (colourAt (c .right) y) (colourAt (c .left) x)) 0 (size b) | false ↦ 255 ]
+
+-- the same by the representatives and the colours of both sides
+unfoldable pub hasColour : List ℕ → List ℕ → ℕ → ℕ → Bool
+hasColour roots colours colour y = isRepIn roots y && eqb (colourAt colours y) colour
+
+unfoldable pub imageIn : List ℕ → List ℕ → List ℕ → List ℕ → ℕ → ℕ
+imageIn roots roots' left right x = elim (isRepIn roots x) [ true ↦ lowest (hasColour roots' right (colourAt left x)) 0 (length roots') | false ↦ 255 ]
 
 unfoldable pub mapOf : Model → Model → Sides → List ℕ
 mapOf a b c = map (imageOf a b c) (upFrom 0 (size a))

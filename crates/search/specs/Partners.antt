@@ -1,5 +1,6 @@
 -- Fixed pairs: 14 and 15 over the whole list; then "one element is paired with two" gives 1 with 0 units.
 use Prim.Native.Nat.{ℕ, zero, suc, _+_}
+use mathlib.Core.Path.{_≡_}
 use mathlib.Core.Bool.{Bool, true, false, _||_}
 use mathlib.Core.List.{List}
 use lib.ListN.{set}
@@ -29,3 +30,12 @@ partnersFrom (suc left) a b pairs i f g =
 
 unfoldable pub partnersOf : Model → Model → List ℕ → Partners
 partnersOf a b pairs = partnersFrom (pairCount pairs) a b pairs 0 (blank (size a)) (blank (size b))
+
+-- what a writer of partners answers, true where no element is paired with two, with the partners that it leaves
+unfoldable pub partnersBy : Bool → List ℕ → List ℕ → Partners
+partnersBy true f g = partners f g
+partnersBy false f g = clash
+
+-- partners that good pairs give
+abbrev pub PartnersOf : Model → Model → List ℕ → List ℕ → Type 0
+PartnersOf a b f g = (pairs : List ℕ) × (pairsFrom (pairCount pairs) a b pairs 0 ≡ pair.Good) × (partnersOf a b pairs ≡ partners f g)

@@ -10,3 +10,4 @@ pub mod Canonical
 pub mod Signature
 pub mod Lookup
 pub mod Representatives
+pub mod Cells

@@ -3,9 +3,11 @@ use crate::bytes;
 use crate::numbers;
 use crate::numbers::Carried;
 use crate::numbers::Numbers;
+use crate::work;
 use libc::STDOUT_FILENO;
 use rows::answer::Answer;
 use rows::answer::Applied;
+use search::answer::Answer as Searched;
 
 // A line that is no call.
 pub(crate) fn say_broken_line() {
@@ -37,11 +39,30 @@ fn say_numbers(numbers: Numbers) {
     }
 }
 
+// The output of a call.
+fn say_map(out: &[u8]) {
+    io::write_all(STDOUT_FILENO, b" map ");
+    bytes::say(out);
+}
+
+// The work of a call.
+fn say_work(entries: &[u16]) {
+    io::write_all(STDOUT_FILENO, b" work ");
+    work::say(entries);
+}
+
 // The answer of a call that writes a map, and its output.
 pub(crate) fn say(answer: Answer, out: &[u8]) {
     say_numbers(numbers::of_answer(answer));
-    io::write_all(STDOUT_FILENO, b" map ");
-    bytes::say(out);
+    say_map(out);
+    say_line_end();
+}
+
+// The answer of a call of the search, its output and its work.
+pub(crate) fn say_searched(answer: Searched, out: &[u8], entries: &[u16]) {
+    say_numbers(numbers::of_searched(answer));
+    say_map(out);
+    say_work(entries);
     say_line_end();
 }
 

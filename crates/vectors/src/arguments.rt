@@ -1,14 +1,19 @@
 // The arguments of a call: the words of its line after the name.
+use crate::budget;
 use crate::bytes;
 use crate::room;
 use crate::words;
+use crate::work;
 
-// Whether a word is an argument of a kind: `b` for bytes, `e` for an element, `n` for the length of an output.
+// Whether a word is an argument of a kind: `b` for bytes, `e` for an element, `n` for the length of an output, `u` for a budget, `w` for the
+// length of a work.
 fn is_of(kind: u8, word: &[u8]) -> bool {
     match kind {
         b'b' => bytes::are_bytes(word),
         b'e' => bytes::is_byte(word),
         b'n' => room::is_room(word),
+        b'u' => budget::is_budget(word),
+        b'w' => work::is_work(word),
         _ => false,
     }
 }

@@ -5,7 +5,7 @@ ghost use Rattle.io.specs.Counts.{Counts};
 use libc::STDOUT_FILENO;
 
 // The value of a digit; 16 for what is none.
-fn digit(c: u8) -> u8
+pub(crate) fn digit(c: u8) -> u8
     ensures { λ r. ⌜ r ≤ 16 ⌝ }
 {
     match c {
@@ -16,7 +16,7 @@ fn digit(c: u8) -> u8
 }
 
 // Whether a word is digits, two for each byte.
-fn is_hex(word: &[u8]) -> bool {
+pub(crate) fn is_hex(word: &[u8]) -> bool {
     let mut i: usize = 0;
     while i < word.len() {
         if 16 <= digit(word[i]) {

@@ -3,8 +3,11 @@ use crate::answer;
 use crate::apply;
 use crate::check;
 use crate::compose;
+use crate::find;
 use crate::identity;
 use crate::inverse;
+use crate::pairs;
+use crate::under;
 use crate::words;
 
 // A line, by the name of its call.
@@ -20,6 +23,12 @@ fn replay(line: &[u8]) {
         compose::replay(line);
     } else if words::same(name, b"inverse") {
         inverse::replay(line);
+    } else if words::same(name, b"find") {
+        find::replay(line);
+    } else if words::same(name, b"pairs") {
+        pairs::replay(line);
+    } else if words::same(name, b"under") {
+        under::replay(line);
     } else {
         answer::say_broken_line();
     }

@@ -6,22 +6,32 @@
 //     apply SOURCE TARGET MAP ELEMENT
 //     compose SOURCE MIDDLE TARGET MAP MAP LENGTH
 //     inverse SOURCE TARGET MAP LENGTH
+//     find LEFT RIGHT BUDGET LENGTH WORK
+//     pairs LEFT RIGHT PAIRS BUDGET LENGTH WORK
+//     under BASE LEFT RIGHT MAP MAP BUDGET LENGTH WORK
 //
-// Files, pair lists and maps are bytes in hex, `_` where there are none; an element is one byte in hex; a length, in decimal, is that of
-// the output that is lent, each byte of it a5 before the call. The answer is its number and the values it carries, then, of each call but
-// apply, `map` and all of the output after the call. For any other line it prints `?`.
+// Files, pair lists and maps are bytes in hex, `_` where there are none; an element is one byte in hex, and a budget sixteen digits; a
+// length, in decimal, is that of the output that is lent, each byte of it a5 before the call. WORK, in decimal, is the number of work
+// entries that are lent, each of them 5a5a before the call. The answer is its number and the values it carries, then, of each call but
+// apply, `map` and all of the output after the call. Of find, pairs and under `work` follows, with `zero` where the first 32,768 entries
+// are 0 and the rest as before the call, `same` where all are as before, or `other`. For any other line it prints `?`.
 mod answer;
 mod apply;
 mod arguments;
+mod budget;
 mod bytes;
 mod check;
 mod compose;
+mod find;
 mod identity;
 mod inverse;
 mod lines;
 mod numbers;
+mod pairs;
 mod room;
+mod under;
 mod words;
+mod work;
 
 ghost use mathlib.Core.Path.{_≡_};
 ghost use lib.ListN.{length};

@@ -3,9 +3,11 @@ ghost use mathlib.Core.Path.{_≡_};
 ghost use mathlib.Core.List.{[], _∷_};
 ghost use Rattle.stored.specs.Refusal.{numbers as refusalNumbers};
 ghost use Rattle.rows.specs.Answer.{numbers as answerNumbers, appliedNumbers};
+ghost use Rattle.search.specs.Answer.{numbers as searchedNumbers};
 ghost use Rattle.vectors.specs.Numbers.{listed};
 use rows::answer::Answer;
 use rows::answer::Applied;
+use search::answer::Answer as Searched;
 use stored::refusal::Refusal;
 
 // The values that an answer carries.
@@ -78,6 +80,18 @@ pub(crate) fn of_answer(answer: Answer) -> Numbers
         Answer::Accepted => alone(0),
         Answer::None => alone(1),
         Answer::Refused(refusal) => of_refusal(refusal),
+    }
+}
+
+// Of a call of the search.
+pub(crate) fn of_searched(answer: Searched) -> Numbers
+    ensures { λ r. ⌜ listed r ≡ searchedNumbers answer ⌝ }
+{
+    match answer {
+        Searched::Found(units) => with_one(0, units as usize),
+        Searched::None(units) => with_one(1, units as usize),
+        Searched::Exhausted(units) => with_one(2, units as usize),
+        Searched::Refused(refusal) => of_refusal(refusal),
     }
 }
 

@@ -20,7 +20,7 @@ fn longer(n: usize, c: u8) -> usize
 }
 
 // The number of a word; 65,536 for a larger one, and for a word that is none.
-fn number(word: &[u8]) -> usize
+pub(crate) fn number(word: &[u8]) -> usize
     ensures { λ r. ⌜ r ≤ 65536 ⌝ }
 {
     if word.len() == 0 {

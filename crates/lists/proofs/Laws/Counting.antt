@@ -269,7 +269,7 @@ finer-more f g xs h = omega (arith, distinct-fits coarse (map coarser fine) (fir
 
     onto : (y : ℕ) → List·Memᴰ y coarse → List·Memᴰ y (map coarser fine)
     onto y m =
-        let r = mem-map f xs y (mem-firsts eqb eqb-true itself (map f xs) y m) in
+        let r = mem-map f xs y (mem-firsts eqb (map f xs) y m) in
         let n = map-mem coarser fine (g (r .0)) (firsts-mem eqb eqb-true itself (map g xs) (g (r .0)) (map-mem g xs (r .0) (r .1))) in
         subst (λ (v : ℕ). List·Memᴰ v (map coarser fine)) (sym (r .2 ∙ back (r .0) (r .1))) n
 
@@ -337,7 +337,7 @@ pub ascending-distinct : (rs : List (List ℕ)) → ascending rs ≡ true → Di
 ascending-distinct [] h = tt
 ascending-distinct (r ∷ rs) h = from-distinct r rs (sym (ascending-cons r rs) ∙ h)
 
--- the first members of classes are members, and apart: each has its own place for its number
+-- the first members of classes are apart: each has its own place for its number
 module _ {A : Type 0} (same : A → A → Bool) (rfl : (x : A) → same x x ≡ true) (symm : (x y : A) → same x y ≡ true → same y x ≡ true) where
   abbrev Apart : List A → Type 0
   Apart [] = Unit {0}
@@ -374,18 +374,9 @@ module _ {A : Type 0} (same : A → A → Bool) (rfl : (x : A) → same x x ≡ 
   pub class-place : (xs : List A) (k : ℕ) (d : A) → k < length (firsts same xs) → firstAt (same (getD (firsts same xs) k d)) (firsts same xs) ≡ k
   class-place xs = apart-place (firsts same xs) (firsts-apart xs)
 
-  pub class-member : (xs : List A) (y : A) → List·Memᴰ y (firsts same xs) → List·Memᴰ y xs
-  unfolding firsts
-  class-member [] y m = m
-  class-member (x ∷ xs) y m = go (List·Memᴰ·cases-cons m) (class-member xs y)
-    where
-      go : (y ≡ x) ⊎ List·Memᴰ y (keep (λ (z : A). not (same x z)) (firsts same xs)) → (List·Memᴰ y (firsts same xs) → List·Memᴰ y xs) → List·Memᴰ y (x ∷ xs)
-      go (inl q) ih = List·Memᴰ·head q
-      go (inr n) ih = List·Memᴰ·tail (ih (mem-keep (λ (z : A). not (same x z)) (firsts same xs) y n .0))
-
 -- a list has no more different members than members
 pub different-fit : (xs : List ℕ) → length (firsts eqb xs) ≤ length xs
-different-fit xs = distinct-fits (firsts eqb xs) xs (firsts-distinct eqb eqb-true itself xs) (mem-firsts eqb eqb-true itself xs)
+different-fit xs = distinct-fits (firsts eqb xs) xs (firsts-distinct eqb eqb-true itself xs) (mem-firsts eqb xs)
   where
     itself : (x : ℕ) → eqb x x ≡ true
     itself x = eq-eqb x x refl
@@ -405,3 +396,12 @@ another p v (y ∷ ys) d h = go (split (p y)) (another p v ys (d .1))
         (λ q. let r = howMany-some p ys (omega (arith, howMany-yes p y ys e)) in
         later (r .0, r .1, (λ k. d .0 (subst (λ (z : ℕ). List·Memᴰ z ys) (k ∙ sym q) (r .1))), r .2))
         (λ q. (y, List·Memᴰ·head refl, q, e))
+
+-- no more pass than there are
+pub howMany-fits : {A : Type 0} (p : A → Bool) (xs : List A) → howMany p xs ≤ length xs
+howMany-fits p [] = omega (arith, howMany-none p)
+howMany-fits p (x ∷ xs) = by-test (split (p x)) (howMany-fits p xs)
+  where
+    by-test : (p x ≡ true) ⊎ (p x ≡ false) → howMany p xs ≤ length xs → howMany p (x ∷ xs) ≤ suc (length xs)
+    by-test (inl e) ih = omega (arith, howMany-yes p x xs e, ih)
+    by-test (inr e) ih = omega (arith, howMany-no p x xs e, ih)

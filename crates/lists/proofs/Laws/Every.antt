@@ -253,6 +253,14 @@ module _ {A : Type 0} (p : A → Bool) where
       go (inl e) ih = rw (keep-yes p y (ys ++ x ∷ []) e, keep-yes p y ys e, ih)
       go (inr e) ih = rw (keep-no p y (ys ++ x ∷ []) e, keep-no p y ys e, ih)
 
+  pub keep-append : (xs ys : List A) → keep p (xs ++ ys) ≡ keep p xs ++ keep p ys
+  keep-append [] ys = ap (λ zs. zs ++ keep p ys) (sym (keep-none p))
+  keep-append (x ∷ xs) ys = go (split (p x)) (keep-append xs ys)
+    where
+      go : (p x ≡ true) ⊎ (p x ≡ false) → keep p (xs ++ ys) ≡ keep p xs ++ keep p ys → keep p (x ∷ xs ++ ys) ≡ keep p (x ∷ xs) ++ keep p ys
+      go (inl e) ih = rw (keep-yes p x (xs ++ ys) e, keep-yes p x xs e) (ap (λ zs. x ∷ zs) ih)
+      go (inr e) ih = rw (keep-no p x (xs ++ ys) e, keep-no p x xs e) ih
+
 -- inside a list it does not matter what stands for a member that is missing
 pub getD-inside : {A : Type 0} (xs : List A) (i : ℕ) (d e : A) → i < length xs → getD xs i d ≡ getD xs i e
 getD-inside xs i d e h = let p = drop-cons xs i d h in let q = drop-cons xs i e h in cc
@@ -270,3 +278,31 @@ pub take-replicate : {A : Type 0} (n m : ℕ) (x : A) → n ≤ m → take n (re
 take-replicate zero m x h = refl
 take-replicate (suc n) zero x h = absurd (omega arith)
 take-replicate (suc n) (suc m) x h = rw (take-replicate n m x (omega arith))
+
+module _ {A : Type 0} (p : A → Bool) where
+  pub all-append-yes : (xs ys : List A) → all p xs ≡ true → all p (xs ++ ys) ≡ all p ys
+  all-append-yes [] ys h = refl
+  all-append-yes (x ∷ xs) ys h = by-test (split (p x)) (all-append-yes xs ys)
+    where
+      by-test : (p x ≡ true) ⊎ (p x ≡ false) → (all p xs ≡ true → all p (xs ++ ys) ≡ all p ys) → all p (x ∷ xs ++ ys) ≡ all p ys
+      by-test (inl e) ih = all-yes p x (xs ++ ys) e ∙ ih (sym (all-yes p x xs e) ∙ h)
+      by-test (inr e) ih = clash h (all-no p x xs e)
+
+  pub all-append-no : (xs ys : List A) → all p xs ≡ false → all p (xs ++ ys) ≡ false
+  all-append-no [] ys h = clash (all-none p) h
+  all-append-no (x ∷ xs) ys h = by-test (split (p x)) (all-append-no xs ys)
+    where
+      by-test : (p x ≡ true) ⊎ (p x ≡ false) → (all p xs ≡ false → all p (xs ++ ys) ≡ false) → all p (x ∷ xs ++ ys) ≡ false
+      by-test (inl e) ih = all-yes p x (xs ++ ys) e ∙ ih (sym (all-yes p x xs e) ∙ h)
+      by-test (inr e) ih = all-no p x (xs ++ ys) e
+
+pub all-agree : {A : Type 0} (p q : A → Bool) (xs : List A) → ((x : A) → List·Memᴰ x xs → p x ≡ q x) → all p xs ≡ all q xs
+all-agree p q [] h = all-none p ∙ sym (all-none q)
+all-agree p q (x ∷ xs) h = by-test (split (p x)) (all-agree p q xs (λ y m. h y (List·Memᴰ·tail m)))
+  where
+    same : p x ≡ q x
+    same = h x (List·Memᴰ·head refl)
+
+    by-test : (p x ≡ true) ⊎ (p x ≡ false) → all p xs ≡ all q xs → all p (x ∷ xs) ≡ all q (x ∷ xs)
+    by-test (inl e) ih = all-yes p x xs e ∙ ih ∙ sym (all-yes q x xs (sym same ∙ e))
+    by-test (inr e) ih = all-no p x xs e ∙ sym (all-no q x xs (sym same ∙ e))

@@ -157,3 +157,40 @@ module _ {A : Type 0} where
 
     pub first-nowhere : length xs ≤ i → i ≡ firstAt p xs
     first-nowhere h = sym (firstAt-end p xs i h) ∙ from .same
+
+-- tests that agree below a number have the same lowest number there
+pub lowest-agree : (p q : ℕ → Bool) (i n : ℕ) → ((x : ℕ) → i ≤ x → x < i + n → p x ≡ q x) → lowest p i n ≡ lowest q i n
+unfolding lowest
+lowest-agree p q i zero h = refl
+lowest-agree p q i (suc n) h = by-test (split (p i)) (lowest-agree p q (suc i) n (λ x k l. h x (omega arith) (omega arith)))
+  where
+    same : p i ≡ q i
+    same = h i (omega arith) (omega arith)
+
+    by-test : (p i ≡ true) ⊎ (p i ≡ false) → lowest p (suc i) n ≡ lowest q (suc i) n → lowest p i (suc n) ≡ lowest q i (suc n)
+    by-test (inl e) ih = rw (e, lowest, sym same ∙ e) refl
+    by-test (inr e) ih = rw (e, lowest, sym same ∙ e) ih
+
+-- where a member passes, the first that does is the lowest place up to it that does
+pub first-lowest : {A : Type 0} (p : A → Bool) (xs : List A) (d : A) (i : ℕ) → i < length xs → p (getD xs i d) ≡ true → lowest (λ (j : ℕ). p (getD xs j d)) 0 i ≡ firstAt p xs
+first-lowest {A} p xs d i h e = omega (arith, at-most, at-least, below-i)
+  where
+    q : ℕ → Bool
+    q j = p (getD xs j d)
+
+    l : ℕ
+    l = lowest (λ (j : ℕ). p (getD xs j d)) 0 i
+
+    within : (0 ≤ l) × (l ≤ 0 + i)
+    within = lowest-within (λ (j : ℕ). p (getD xs j d)) 0 i
+
+    below-i : firstAt p xs ≤ i
+    below-i = firstAt-some p d xs i h e
+
+    at-least : firstAt p xs ≤ lowest (λ (j : ℕ). p (getD xs j d)) 0 i
+    at-least = by-cases (decLe (firstAt p xs) (lowest (λ (j : ℕ). p (getD xs j d)) 0 i)) (λ k. k) (λ k. clash (lowest-passes (λ (j : ℕ). p (getD xs j d)) 0 i (omega (arith, k, below-i))) (firstAt-below p d xs l (omega (arith, k))))
+
+    at-most : lowest (λ (j : ℕ). p (getD xs j d)) 0 i ≤ firstAt p xs
+    at-most =
+        by-cases (decLe (lowest (λ (j : ℕ). p (getD xs j d)) 0 i) (firstAt p xs)) (λ k. k)
+        (λ k. clash (firstAt-passes p d xs (omega (arith, below-i, h))) (lowest-below (λ (j : ℕ). p (getD xs j d)) 0 i (firstAt p xs) (omega arith) (omega (arith, k))))

@@ -50,6 +50,14 @@ module _ (p : ℕ → Bool) (i n : ℕ) where
   pub allUp-end : n ≤ i → all p (upFrom i (n - i)) ≡ true
   allUp-end h = rw (upFrom-end i n h) (all-none p)
 
+pub upFrom-none : (i : ℕ) → upFrom i 0 ≡ []
+unfolding upFrom
+upFrom-none i = refl
+
+pub upFrom-cons : (i n : ℕ) → upFrom i (suc n) ≡ i ∷ upFrom (suc i) n
+unfolding upFrom
+upFrom-cons i n = refl
+
 pub length-upFrom : (i n : ℕ) → length (upFrom i n) ≡ n
 unfolding upFrom
 length-upFrom i zero = refl
@@ -87,3 +95,9 @@ module _ {p : ℕ → Bool} {n i : ℕ} (from : UpFrom p n i) where
 
   pub up-over : n ≤ i → true ≡ all p (upFrom 0 n)
   up-over h = sym (allUp-end p i n h) ∙ from .same
+
+pub getD-upFrom : (i n x d : ℕ) → x < n → getD (upFrom i n) x d ≡ i + x
+unfolding upFrom
+getD-upFrom i zero x d h = absurd (omega arith)
+getD-upFrom i (suc n) zero d h = omega arith
+getD-upFrom i (suc n) (suc x) d h = getD-upFrom (suc i) n x d (omega arith) ∙ omega arith

@@ -11,6 +11,7 @@ use borrow.Author.Tests.{lt-ltb, le-ltb, eq-eqb, ne-eqb, eqb-true}
 use lib.Dec.{ltb, eqb}
 use lib.ListN.{length, getD, drop, drop-of-length-le}
 use lib.Seq.{drop-cons}
+use Rattle.lists.specs.Every.{pairwise}
 use Rattle.lists.specs.Order.{sameRow, rowBefore, ascendingFrom, ascending}
 use Rattle.lists.specs.Part.{part, rowsOf}
 use Rattle.lists.proofs.Laws.Tests.{same-test}
@@ -110,3 +111,14 @@ module _ (a : ℕ) (s : List ℕ) where
 -- which of two rows is asked about first does not matter
 pub same-either : (x y : List ℕ) → sameRow x y ≡ sameRow y x
 same-either x y = same-test (sameRow x y) (sameRow y x) (λ h. rw (same-row x y h) (same-row-refl y)) (λ h. rw (same-row y x h) (same-row-refl x))
+
+pub same-row-sym : (x y : List ℕ) → sameRow x y ≡ true → sameRow y x ≡ true
+same-row-sym x y h = sym (same-either x y) ∙ h
+
+pub same-row-trans : (x y z : List ℕ) → sameRow x y ≡ true → sameRow y z ≡ true → sameRow x z ≡ true
+same-row-trans x y z h k = rw (same-row x y h) k
+
+-- rows are compared place by place
+pub rows-same : (xs ys : List ℕ) → sameRow xs ys ≡ pairwise eqb xs ys
+unfolding sameRow
+rows-same xs ys = refl

@@ -5,7 +5,7 @@ use mathlib.Core.List.{List, [], _∷_, _++_, append-assoc, append-nil}
 use native.Mathlib.Omega.{arith}
 use native.Mathlib.Numerals.{add-one}
 use lib.ListN.{length, getD, take, drop, set, length-append, length-drop, drop-of-length-le, List·getD-append}
-use lib.Seq.{drop-cons, set-append-seam, length-take-le, take-all, take-at, take-suc}
+use lib.Seq.{drop-cons, set-append-seam, take-append-seam, length-take-le, take-all, take-at, take-suc, drop-drop}
 use Rattle.lists.specs.Part.{over}
 
 module _ {A : Type 0} where
@@ -26,6 +26,15 @@ module _ {A : Type 0} where
   pub length-over : (xs old : List A) → length xs ≤ length old → length (over xs old) ≡ length old
   unfolding over
   length-over xs old h = rw (length-append, length-drop) (omega arith)
+
+  -- what is written stands in front
+  pub over-holds : (xs old : List A) → length xs ≤ length (over xs old)
+  unfolding over
+  over-holds xs old = rw (length-append) (omega arith)
+
+  pub over-front : (xs old : List A) → take (length xs) (over xs old) ≡ xs
+  unfolding over
+  over-front xs old = take-append-seam xs (drop (length xs) old)
 
   pub getD-over : (xs old : List A) (i : ℕ) (d : A) → i < length xs → getD (over xs old) i d ≡ getD xs i d
   unfolding over
@@ -79,3 +88,15 @@ module _ {A : Type 0} (n : ℕ) (array new : List A) (room : n ≤ length array)
 
   pub back-front : take n (new ++ drop n array) ≡ new
   back-front = take-at new (drop n array) n lent-long
+
+-- what was written over a list, then what is left of it
+pub over-split : {A : Type 0} (xs old : List A) → over xs old ≡ xs ++ drop (length xs) old
+unfolding over
+over-split xs old = refl
+
+-- two lists written one behind the other
+pub over-append : {A : Type 0} (xs ys old : List A) → over (xs ++ ys) old ≡ xs ++ over ys (drop (length xs) old)
+unfolding over
+over-append {A = A} xs ys old =
+    append-assoc xs ys (drop (length (xs ++ ys)) old)
+    ∙ ap (λ (t : List A). xs ++ (ys ++ t)) (ap (λ (n : ℕ). drop n old) (length-append xs ys) ∙ sym (drop-drop (length ys) (length xs) old))

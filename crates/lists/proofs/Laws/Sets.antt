@@ -6,7 +6,7 @@ use mathlib.Core.Logic.{_⊎_, inl, inr}
 use mathlib.Core.Bool.{Bool, true, false, not}
 use mathlib.Core.List.{List, [], _∷_, map, List·Memᴰ, List·Memᴰ·head, List·Memᴰ·tail, List·Memᴰ·cases-cons, List·Memᴰ·not-nil, Memᴰ·cast}
 use native.Mathlib.Omega.{arith}
-use borrow.Author.Tests.{not-true, not-false}
+use borrow.Author.Tests.{not-true}
 use lib.ListN.{length}
 use Rattle.lists.specs.Every.{keep}
 use Rattle.lists.specs.First.{firsts}
@@ -90,6 +90,17 @@ map-mem f (y ∷ xs) x m = go (List·Memᴰ·cases-cons m) (map-mem f xs x)
     go (inl e) ih = List·Memᴰ·head (ap f e)
     go (inr n) ih = List·Memᴰ·tail (ih n)
 
+-- first appearances are members
+module _ {A : Type 0} (same : A → A → Bool) where
+  pub mem-firsts : (xs : List A) (y : A) → List·Memᴰ y (firsts same xs) → List·Memᴰ y xs
+  unfolding firsts
+  mem-firsts [] y m = m
+  mem-firsts (x ∷ xs) y m = go (List·Memᴰ·cases-cons m) (mem-firsts xs y)
+    where
+      go : (y ≡ x) ⊎ List·Memᴰ y (keep (λ (z : A). not (same x z)) (firsts same xs)) → (List·Memᴰ y (firsts same xs) → List·Memᴰ y xs) → List·Memᴰ y (x ∷ xs)
+      go (inl e) ih = List·Memᴰ·head e
+      go (inr n) ih = List·Memᴰ·tail (ih (mem-keep (λ (z : A). not (same x z)) (firsts same xs) y n .0))
+
 -- first appearances, where only equal members are the same
 module _ {A : Type 0} (same : A → A → Bool) (equal : (x y : A) → same x y ≡ true → x ≡ y) (itself : (x : A) → same x x ≡ true) where
   pub firsts-distinct : (xs : List A) → Distinct (firsts same xs)
@@ -99,15 +110,6 @@ module _ {A : Type 0} (same : A → A → Bool) (equal : (x y : A) → same x y 
     (λ m. clash (itself x) (not-true _ (mem-keep (λ (y : A). not (same x y)) (firsts same xs) x m .1))),
     keep-distinct (λ (y : A). not (same x y)) (firsts same xs) (firsts-distinct xs),
   )
-
-  pub mem-firsts : (xs : List A) (y : A) → List·Memᴰ y (firsts same xs) → List·Memᴰ y xs
-  unfolding firsts
-  mem-firsts [] y m = m
-  mem-firsts (x ∷ xs) y m = go (List·Memᴰ·cases-cons m) (mem-firsts xs y)
-    where
-      go : (y ≡ x) ⊎ List·Memᴰ y (keep (λ (z : A). not (same x z)) (firsts same xs)) → (List·Memᴰ y (firsts same xs) → List·Memᴰ y xs) → List·Memᴰ y (x ∷ xs)
-      go (inl e) ih = List·Memᴰ·head e
-      go (inr n) ih = List·Memᴰ·tail (ih (mem-keep (λ (z : A). not (same x z)) (firsts same xs) y n .0))
 
   pub firsts-mem : (xs : List A) (y : A) → List·Memᴰ y xs → List·Memᴰ y (firsts same xs)
   unfolding firsts

@@ -19,7 +19,7 @@ use Rattle.stored.specs.Model.{Model}
 use Rattle.rounds.specs.Colours.{colourAt}
 use Rattle.rounds.specs.Keys.{Key, keyOf, sameKey}
 use Rattle.rounds.specs.Round.{reps, Sides, palette, round, coloursOf, colourCount, equalCounts}
-use Rattle.lists.proofs.Laws.Counting.{howMany-append, howMany-some, howMany-mem, distinct-fits, upFrom-distinct, finer-more, class-place, class-member}
+use Rattle.lists.proofs.Laws.Counting.{howMany-append, howMany-some, howMany-mem, distinct-fits, upFrom-distinct, finer-more, class-place}
 use Rattle.rounds.proofs.Theorems.Keys.{Side, onLeft, onRight, modelOn, coloursOn, RepOn, key-refl, key-sym, number-known, round-at}
 use Rattle.rounds.proofs.Theorems.Refining.{left-refines, right-refines}
 
@@ -60,7 +60,7 @@ module _ (m : Model) (colours : List ℕ) where
       found = firsts eqb all-of
 
       found-below : (k : ℕ) → List·Memᴰ k found → List·Memᴰ k (upFrom 0 n)
-      found-below k i = upFrom-mem 0 n k zero-le (omega (arith, below k (mem-firsts eqb eqb-true itself all-of k i)))
+      found-below k i = upFrom-mem 0 n k zero-le (omega (arith, below k (mem-firsts eqb all-of k i)))
 
       below-found : (k : ℕ) → List·Memᴰ k (upFrom 0 n) → List·Memᴰ k found
       below-found k i = firsts-mem eqb eqb-true itself all-of k (every k (omega (arith, mem-upFrom 0 n k i .1)))
@@ -115,7 +115,7 @@ module _ (a b : Model) (c : Sides) where
 
   pub all-given : (k : ℕ) → k < length (palette a b c) → List·Memᴰ k (coloursAfter onLeft) ⊎ List·Memᴰ k (coloursAfter onRight)
   unfolding palette
-  all-given k h = go (List·Memᴰ·append-cases leftKeys (class-member sameKey key-refl key-sym (leftKeys ++ rightKeys) z (getD-mem (firsts sameKey (leftKeys ++ rightKeys)) k none h)))
+  all-given k h = go (List·Memᴰ·append-cases leftKeys (mem-firsts sameKey (leftKeys ++ rightKeys) z (getD-mem (firsts sameKey (leftKeys ++ rightKeys)) k none h)))
     where
       leftKeys : List Key
       leftKeys = map (keyOf a (c .left)) (reps a)

@@ -9,7 +9,7 @@ use native.Mathlib.Omega.{arith}
 use borrow.Author.Tests.{eqb-true, eq-eqb}
 use lib.Dec.{eqb}
 use lib.ListN.{length}
-use Rattle.lists.specs.Every.{all, howMany}
+use Rattle.lists.specs.Every.{all, howMany, keep}
 use Rattle.lists.specs.First.{firstAt}
 use Rattle.lists.specs.Numbers.{upFrom}
 use Rattle.lists.specs.Order.{sameRow}
@@ -73,6 +73,10 @@ pub key-trans : (k l m : Key) → sameKey k l ≡ true → sameKey l m ≡ true 
 key-trans k l m h i = make-same k m (same-own k l h ∙ same-own l m i) (λ e. same-places k l h e ∙ same-places l m i e)
 
 -- representatives
+pub reps-kept : (m : Model) → reps m ≡ keep (isRep m) (upFrom 0 (size m))
+unfolding reps
+reps-kept m = refl
+
 module _ (m : Model) (x : ℕ) where
   pub reps-below : List·Memᴰ x (reps m) → x < size m
   unfolding reps

@@ -1,28 +1,27 @@
 -- Single: what an outcome says of the round it came from; where no left class is open after a stable round, equal colours tell representatives apart
 -- on both sides; where a class is open, its lowest representative has its colour. Assumes nothing.
-use Prim.Native.Nat.{ℕ, zero, suc, _+_, _<_, _≤_, zero-le}
-use mathlib.Core.Path.{_≡_, refl, sym, _∙_, ap, subst}
+use Prim.Native.Nat.{ℕ, suc, _<_, _≤_, zero-le}
+use mathlib.Core.Path.{_≡_, refl, sym, _∙_, ap}
 use mathlib.Core.Logic.{_⊎_, inl, inr, by-cases}
-use mathlib.Core.Bool.{Bool, true, false, _&&_}
+use mathlib.Core.Bool.{Bool, true, false}
 use mathlib.Core.List.{List, [], _∷_, List·Memᴰ, List·Memᴰ·cases-cons, List·Memᴰ·not-nil}
 use native.Mathlib.Omega.{arith}
-use native.Mathlib.Decide.{ℕ-discrete, decLe}
-use borrow.Author.Tests.{eqb-true, eqb-false, eq-eqb, ltb-true, ltb-false}
-use lib.Dec.{eqb, ltb, leb}
+use native.Mathlib.Decide.{decLe}
+use borrow.Author.Tests.{eqb-true, eqb-false, eq-eqb}
+use lib.Dec.{eqb}
 use lib.ListN.{length, length-map}
 use Rattle.lists.specs.Every.{howMany}
-use Rattle.lists.specs.First.{lowest, firsts}
+use Rattle.lists.specs.First.{lowest}
 use Rattle.lists.specs.Numbers.{upFrom}
-use Rattle.lists.proofs.Laws.Tests.{split, clash, and-left, and-right, and-both}
+use Rattle.lists.proofs.Laws.Tests.{split, clash}
 use Rattle.lists.proofs.Laws.First.{lowest-passes, lowest-below}
 use Rattle.lists.proofs.Laws.Numbers.{length-upFrom}
-use Rattle.lists.proofs.Laws.Sets.{firsts-distinct, mem-firsts}
-use Rattle.stored.specs.Model.{Model, size, isRep}
+use Rattle.stored.specs.Model.{Model, size}
 use Rattle.rounds.specs.Colours.{colourAt}
-use Rattle.rounds.specs.Round.{reps, Sides, recoloured, newColour, palette, round, coloursOf, colourCount, equalCounts, Outcome, dead, stable, again, outcome, roundOutcome}
-use Rattle.rounds.specs.Classes.{Open, allSingle, openAt, smaller, smallestFrom, smallestOpen, lowestOf}
-use Rattle.lists.proofs.Laws.Counting.{howMany-yes, howMany-no, howMany-some, howMany-mem, howMany-map, distinct-fits, different-fit}
-use Rattle.rounds.proofs.Theorems.Keys.{onLeft, onRight, reps-below, reps-rep, rep-reps}
+use Rattle.rounds.specs.Round.{reps, Sides, recoloured, newColour, palette, round, coloursOf, colourCount, equalCounts, dead, stable, again, outcome, roundOutcome}
+use Rattle.rounds.specs.Classes.{allSingle, openAt, smallestOpen, lowestOf}
+use Rattle.lists.proofs.Laws.Counting.{howMany-yes, howMany-no, howMany-some, howMany-mem, howMany-map, different-fit}
+use Rattle.rounds.proofs.Theorems.Keys.{onLeft, onRight}
 use Rattle.rounds.proofs.Theorems.Classes.{Answers, smallest-from, class-some, open-two, lowest-rep, lowest-coloured, outcome-stable, outcome-again, when-stable, when-again}
 use Rattle.rounds.proofs.Theorems.Counts.{colour-of, colour-there, equal-at, colour-below}
 

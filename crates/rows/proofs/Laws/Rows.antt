@@ -6,7 +6,7 @@ use mathlib.Core.Bool.{Bool, true, not}
 use mathlib.Core.List.{List, [], _∷_, map}
 use native.Mathlib.Omega.{arith}
 use lib.ListN.{length, getD, length-map}
-use Rattle.lists.specs.Every.{any}
+use Rattle.lists.specs.Every.{all, any}
 use Rattle.lists.specs.First.{lowest}
 use Rattle.lists.specs.Order.{sameRow}
 use Rattle.lists.specs.Part.{part}
@@ -38,6 +38,11 @@ isThrough row table other = sameRow row (through table other)
 pub some-through : (row table : List ℕ) (others : List (List ℕ)) → any (isThrough row table) others ≡ hasRow row (map (through table) others)
 unfolding hasRow
 some-through row table others = sym (any-map (sameRow row) (through table) others)
+
+-- rows that are kept, row by row
+pub kept-each : (table : List ℕ) (rows others : List (List ℕ)) → rowsKept table rows others ≡ all (λ (row : List ℕ). hasRow (through table row) others) rows
+unfolding rowsKept
+kept-each table rows others = refl
 
 -- the rows of a relation that are kept, and the first relation whose rows are not
 module _ (a b : Model) (images : List ℕ) where

@@ -136,7 +136,7 @@ module _ (a b : Model) (wa : WellFormed a) (wb : WellFormed b) (f : List ℕ) (m
         subst⁻¹ (λ (y : List ℕ). List·Memᴰ y (map (through (b .roots)) (relationAt b k .rows))) e (map-mem (through (b .roots)) (relationAt b k .rows) (q .0) (q .1))
 
     normal : (row : List ℕ) → List·Memᴰ row (firsts sameRow (normalRows a (relationAt a k))) → List·Memᴰ row (normalRows a (relationAt a k))
-    normal row n = mem-firsts sameRow same-row same-row-refl (normalRows a (relationAt a k)) row n
+    normal row n = mem-firsts sameRow (normalRows a (relationAt a k)) row n
 
     images-distinct : Distinct (map (through f) (firsts sameRow (normalRows a (relationAt a k))))
     images-distinct =

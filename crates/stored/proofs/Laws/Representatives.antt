@@ -1,4 +1,4 @@
--- The laws of representatives in a well formed model: which elements they are, and that every root is one. Assumes nothing.
+-- The laws of representatives in a well formed model: which elements they are, and that every root is one; and of its rows: every entry is an element, and each row has an entry for each column. Assumes nothing.
 use Prim.Native.Nat.{ℕ, suc, _<_, _≤_}
 use mathlib.Core.Path.{_≡_, refl, sym, _∙_, ap, subst}
 use mathlib.Core.Logic.{by-cases}
@@ -6,11 +6,11 @@ use mathlib.Core.Bool.{Bool, true, false, _&&_}
 use mathlib.Core.List.{List, List·Memᴰ, List·Memᴰ·not-nil}
 use native.Mathlib.Omega.{arith}
 use borrow.Author.Tests.{eqb-true, ltb-true}
-use native.Mathlib.Decide.{decLe}
+use native.Mathlib.Decide.{ℕ-discrete, decLe}
 use lib.ListN.{length, getD, List·getD-eq-default}
 use lib.Dec.{ltb, eqb}
-use Rattle.lists.proofs.Laws.Tests.{and-left, and-right}
-use Rattle.lists.proofs.Laws.Every.{pairwise-mem, getD-mem}
+use Rattle.lists.proofs.Laws.Tests.{clash, and-left, and-right}
+use Rattle.lists.proofs.Laws.Every.{pairwise-lengths, pairwise-mem, getD-mem}
 use Rattle.stored.specs.Types.{typeIn}
 use Rattle.stored.specs.Relation.{entryTyped, rowTyped}
 use Rattle.stored.specs.Model.{Rel, Model, size, rootOf, isRepIn, isRep, noRelation, relationAt}
@@ -45,4 +45,17 @@ module _ (m : Model) (w : WellFormed m) where
   entry-known k row n x q =
       by-cases (decLe (suc k) (length (m .relations)))
       (λ l. entry-known-in (relationAt m k) (w .each-formed (relationAt m k) (getD-mem (m .relations) k noRelation l)) row n x q)
+      (λ l. absurd (List·Memᴰ·not-nil (subst (λ (r : Rel). List·Memᴰ row (r .rows)) (List·getD-eq-default (m .relations) noRelation (omega arith)) n)))
+
+-- every row is as long as there are columns
+module _ (m : Model) (w : WellFormed m) where
+  row-even-in : (r : Rel) → RelationFormed (m .sizes) r → (row : List ℕ) → List·Memᴰ row (r .rows) → length row ≡ length (r .columns)
+  unfolding rowTyped
+  row-even-in r f row n =
+      by-cases (ℕ-discrete (length row) (length (r .columns))) (λ e. e) (λ ne. clash (f .rows-typed row n) (pairwise-lengths (entryTyped (m .sizes)) (r .columns) row (λ e. ne (sym e))))
+
+  pub row-even : (k : ℕ) (row : List ℕ) → List·Memᴰ row (relationAt m k .rows) → length row ≡ length (relationAt m k .columns)
+  row-even k row n =
+      by-cases (decLe (suc k) (length (m .relations)))
+      (λ l. row-even-in (relationAt m k) (w .each-formed (relationAt m k) (getD-mem (m .relations) k noRelation l)) row n)
       (λ l. absurd (List·Memᴰ·not-nil (subst (λ (r : Rel). List·Memᴰ row (r .rows)) (List·getD-eq-default (m .relations) noRelation (omega arith)) n)))

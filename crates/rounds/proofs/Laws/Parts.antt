@@ -1,0 +1,129 @@
+-- The laws of colours by the parts of a file: one representative more, tests of a colour, and that they are those of the model that was read.
+-- Assumes nothing.
+use Prim.Native.Nat.{ℕ, _+_, _<_, _≤_, zero-le}
+use mathlib.Core.Path.{_≡_, refl, sym, _∙_, ap}
+use mathlib.Core.Logic.{_⊎_, inl, inr, by-cases}
+use mathlib.Core.Bool.{Bool, true, false, _&&_}
+use mathlib.Core.List.{List, [], _∷_, _++_, map, map-append, List·Memᴰ}
+use native.Mathlib.Omega.{arith}
+use native.Mathlib.Numerals.{add-one}
+use native.Mathlib.Decide.{ℕ-discrete}
+use borrow.Author.Tests.{eq-eqb, ne-eqb}
+use lib.ListN.{length}
+use Rattle.lists.specs.Every.{all, keep}
+use Rattle.lists.specs.First.{lowest}
+use Rattle.lists.specs.Numbers.{upFrom}
+use Rattle.lists.proofs.Laws.Tests.{split, clash}
+use Rattle.lists.proofs.Laws.Every.{all-mem, mem-all, keep-none, keep-more, keep-past, keep-mem, mem-keep}
+use Rattle.lists.proofs.Laws.Numbers.{upFrom-end, upFrom-more, upFrom-mem, mem-upFrom}
+use Rattle.lists.proofs.Laws.Sets.{mem-map, map-mem}
+use Rattle.stored.specs.declared.layout.Layout.{Layout}
+use Rattle.stored.specs.Model.{size, isRepIn}
+use Rattle.stored.specs.Reading.{Reads, modelOf}
+use Rattle.stored.proofs.Laws.Reading.{reads-formed}
+use Rattle.rows.proofs.Laws.Given.{rootsIn, roots-between}
+use Rattle.rounds.specs.Colours.{colourAt}
+use Rattle.rounds.specs.Round.{reps, coloursOf}
+use Rattle.rounds.specs.Classes.{lowestOf}
+use Rattle.rounds.specs.Parts.{repsBelow, coloursBelow, coloursIn, hasColour}
+
+-- the numbers below one more
+pub up-more : (x : ℕ) → upFrom 0 (x + 1) ≡ upFrom 0 x ++ x ∷ []
+up-more x = let e : 0 + x ≡ x = omega arith in rw (add-one x, upFrom-more 0 x, e)
+
+-- one representative more, or one alias
+module _ (roots : List ℕ) where
+  pub reps-none : repsBelow roots 0 ≡ []
+  unfolding repsBelow
+  reps-none = ap (keep (isRepIn roots)) (upFrom-end 0 0 (omega arith)) ∙ keep-none (isRepIn roots)
+
+  module _ (x : ℕ) where
+    pub reps-rep : isRepIn roots x ≡ true → repsBelow roots (x + 1) ≡ repsBelow roots x ++ x ∷ []
+    unfolding repsBelow
+    reps-rep e = ap (keep (isRepIn roots)) (up-more x) ∙ keep-more (isRepIn roots) (upFrom 0 x) x e
+
+    pub reps-alias : isRepIn roots x ≡ false → repsBelow roots (x + 1) ≡ repsBelow roots x
+    unfolding repsBelow
+    reps-alias e = ap (keep (isRepIn roots)) (up-more x) ∙ keep-past (isRepIn roots) (upFrom 0 x) x e
+
+-- the same of their colours
+module _ (roots colours : List ℕ) where
+  pub colours-none : coloursBelow roots colours 0 ≡ []
+  unfolding coloursBelow
+  colours-none = ap (map (colourAt colours)) (reps-none roots)
+
+  module _ (x : ℕ) where
+    pub colours-rep : isRepIn roots x ≡ true → coloursBelow roots colours (x + 1) ≡ coloursBelow roots colours x ++ colourAt colours x ∷ []
+    unfolding coloursBelow
+    colours-rep e = ap (map (colourAt colours)) (reps-rep roots x e) ∙ map-append (colourAt colours) (repsBelow roots x) (x ∷ [])
+
+    pub colours-alias : isRepIn roots x ≡ false → coloursBelow roots colours (x + 1) ≡ coloursBelow roots colours x
+    unfolding coloursBelow
+    colours-alias e = ap (map (colourAt colours)) (reps-alias roots x e)
+
+-- which colours they are
+module _ (roots colours : List ℕ) (n : ℕ) where
+  pub colour-there : (x : ℕ) → x < n → isRepIn roots x ≡ true → List·Memᴰ (colourAt colours x) (coloursBelow roots colours n)
+  unfolding coloursBelow repsBelow
+  colour-there x h e =
+      map-mem (colourAt colours) (keep (isRepIn roots) (upFrom 0 n)) x (keep-mem (isRepIn roots) (upFrom 0 n) x (upFrom-mem 0 n x zero-le (omega arith)) e)
+
+  pub colour-of : (k : ℕ) → List·Memᴰ k (coloursBelow roots colours n) → (x : ℕ) × (x < n) × (isRepIn roots x ≡ true) × (k ≡ colourAt colours x)
+  unfolding coloursBelow repsBelow
+  colour-of k m =
+      let o = mem-map (colourAt colours) (keep (isRepIn roots) (upFrom 0 n)) k m in
+      let r = mem-keep (isRepIn roots) (upFrom 0 n) (o .0) (o .1) in
+      (o .0, omega (arith, mem-upFrom 0 n (o .0) (r .0) .1), r .1, o .2)
+
+-- Loops that test the colours of all representatives: those below x pass.
+pub record PassedBelow (p : ℕ → Bool) (roots colours : List ℕ) (x : ℕ) : Type 0 where
+  pub passed : (y : ℕ) → y < x → isRepIn roots y ≡ true → p (colourAt colours y) ≡ true
+
+pub passed-none : (p : ℕ → Bool) (roots colours : List ℕ) → PassedBelow p roots colours 0
+passed-none p roots colours = record { passed = λ y h e. absurd (omega arith) }
+
+module _ {p : ℕ → Bool} {roots colours : List ℕ} {x : ℕ} (i : PassedBelow p roots colours x) where
+  pub passed-more : (isRepIn roots x ≡ true → p (colourAt colours x) ≡ true) → PassedBelow p roots colours (x + 1)
+  passed-more f = record { passed = λ y h e. by-cases (ℕ-discrete y x) (λ q. rw q (f (rw q at e))) (λ q. i .passed y (omega arith) e) }
+
+  pub passed-failed : (n : ℕ) → x < n → isRepIn roots x ≡ true → p (colourAt colours x) ≡ false → false ≡ all p (coloursBelow roots colours n)
+  passed-failed n h e f = go (split (all p (coloursBelow roots colours n)))
+    where
+      go : (all p (coloursBelow roots colours n) ≡ true) ⊎ (all p (coloursBelow roots colours n) ≡ false) → false ≡ all p (coloursBelow roots colours n)
+      go (inl t) = clash (all-mem p (coloursBelow roots colours n) t (colourAt colours x) (colour-there roots colours n x h e)) f
+      go (inr g) = sym g
+
+  pub passed-all : (n : ℕ) → n ≤ x → true ≡ all p (coloursBelow roots colours n)
+  passed-all n h =
+      sym (mem-all p (coloursBelow roots colours n) (λ k m. let o = colour-of roots colours n k m in rw (o .3) (i .passed (o .0) (omega (arith, o .1)) (o .2))))
+
+-- whether an element is a representative of a colour
+module _ (roots colours : List ℕ) (k x : ℕ) where
+  pub has-colour : isRepIn roots x ≡ true → colourAt colours x ≡ k → hasColour roots colours k x ≡ true
+  unfolding hasColour
+  has-colour e q = rw (e, eq-eqb _ _ q)
+
+  pub has-alias : isRepIn roots x ≡ false → hasColour roots colours k x ≡ false
+  unfolding hasColour
+  has-alias e = rw e
+
+  pub has-other : (colourAt colours x ≡ k → ⊥) → hasColour roots colours k x ≡ false
+  unfolding hasColour
+  has-other q = rw (ne-eqb _ _ q) (neither (isRepIn roots x))
+    where
+      neither : (b : Bool) → b && false ≡ false
+      neither true = refl
+      neither false = refl
+
+-- what is handed on of a file that was read
+module _ (s : List ℕ) (l : Layout) (reads : Reads s l) where
+  pub roots-whole : length (modelOf s .roots) ≡ size (modelOf s)
+  roots-whole = reads-formed s l reads .roots-length
+
+  pub colours-handed : (colours : List ℕ) → coloursIn (rootsIn s l) colours ≡ coloursOf (modelOf s) colours
+  unfolding coloursBelow repsBelow coloursOf reps
+  colours-handed colours = rw (roots-between s l reads, roots-whole)
+
+  pub lowest-handed : (colours : List ℕ) (k : ℕ) → lowest (hasColour (rootsIn s l) colours k) 0 (length (rootsIn s l)) ≡ lowestOf (modelOf s) colours k
+  unfolding hasColour lowestOf
+  lowest-handed colours k = rw (roots-between s l reads, roots-whole)

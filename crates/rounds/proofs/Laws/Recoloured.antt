@@ -1,0 +1,163 @@
+-- Recoloured: on a prepared board two elements are alike exactly if their keys are the same, so that grouping them gives the colours of the round. Assumes nothing.
+use Prim.Native.Nat.{ℕ, _+_, _<_, _≤_}
+use mathlib.Core.Path.{_≡_, refl, sym, _∙_, ap, ap₂}
+use mathlib.Core.Logic.{_⊎_, inl, inr}
+use mathlib.Core.Bool.{true, false}
+use mathlib.Core.List.{List, [], _++_}
+use native.Mathlib.Omega.{arith}
+use lib.Dec.{eqb}
+use lib.ListN.{length, getD, take, drop}
+use Rattle.lists.specs.Numbers.{upFrom}
+use Rattle.lists.specs.Part.{over}
+use Rattle.lists.proofs.Laws.Tests.{split}
+use Rattle.lists.proofs.Laws.Numbers.{length-upFrom}
+use Rattle.lists.proofs.Laws.Over.{over-whole, back-front}
+use Rattle.lists.proofs.Laws.Part.{getD-part}
+use Rattle.stored.specs.Model.{Model, size, isRep}
+use Rattle.stored.specs.Signature.{signature, sameSignature}
+use Rattle.stored.specs.declared.layout.Layout.{Layout}
+use Rattle.stored.specs.Reading.{Reads, modelOf}
+use Rattle.stored.proofs.Laws.WellFormed.{WellFormed}
+use Rattle.stored.proofs.Laws.Reading.{reads-formed}
+use Rattle.rows.proofs.Laws.Given.{rootsIn, roots-between, roots-count, roots-few}
+use Rattle.stored.proofs.Laws.Representatives.{rep-known}
+use Rattle.rounds.specs.Colours.{colourAt}
+use Rattle.rounds.specs.Keys.{Key, keyOf, sameBag, sameKey, placesFrom}
+use Rattle.rounds.specs.Round.{Sides, recoloured, round}
+use Rattle.rounds.specs.Board.{numberStart, raised, joined, sameNumbers, picked, coloursOn, placesOn, alikeOn, heldAfter, grouped, Small, Ready, Board, Prepared}
+use Rattle.rounds.proofs.Laws.Joined.{joined-even, joined-left, joined-right}
+use Rattle.rounds.proofs.Laws.Numbered.{numbers-small, bag-by-numbers}
+use Rattle.rounds.proofs.Laws.Grouped.{grouped-left, grouped-right}
+use Rattle.rounds.proofs.Laws.Grouping.{grouped-length}
+
+-- keys with equal parts
+same-keys : (own own' : ℕ) (places places' : List (List ℕ)) → own ≡ own' → places ≡ places' → _≡_ {A = Key} (record { own = own; places = places }) (record { own = own'; places = places' })
+same-keys own own' places places' e f = ap₂ (λ (o : ℕ) (p : List (List ℕ)). record { own = o; places = p }) e f
+
+module _ (a b : Model) (wa : WellFormed a) (wb : WellFormed b) (one : sameSignature (signature a) (signature b) ≡ true) (cells : ℕ) (left right w : List ℕ) (p : Prepared a b cells left right w) where
+  -- the key of an element of the board
+  abbrev keyOn : ℕ → Key
+  keyOn z = record { own = colourAt (coloursOn w) z; places = placesFrom 0 (coloursOn w) z (joined a b) }
+
+  bags : (x y : ℕ) → sameNumbers (placesOn cells w x) (placesOn cells w y) ≡ sameBag (placesFrom 0 (coloursOn w) x (joined a b)) (placesFrom 0 (coloursOn w) y (joined a b))
+  bags x y =
+      ap₂ (λ (es ns : List ℕ). sameNumbers (picked x es ns) (picked y es ns)) (p .board .laid) (p .numbered)
+      ∙ sym (bag-by-numbers (coloursOn w) (joined a b) (joined-even a b wa wb one) x y)
+
+  alike-keys : (x y : ℕ) → alikeOn cells w x y ≡ sameKey (keyOn x) (keyOn y)
+  unfolding alikeOn sameKey
+  alike-keys x y = by-test (split (eqb (colourAt (coloursOn w) x) (colourAt (coloursOn w) y)))
+    where
+      by-test : (eqb (colourAt (coloursOn w) x) (colourAt (coloursOn w) y) ≡ true) ⊎ (eqb (colourAt (coloursOn w) x) (colourAt (coloursOn w) y) ≡ false) → alikeOn cells w x y ≡ sameKey (keyOn x) (keyOn y)
+      by-test (inl e) = rw (e, alikeOn, sameKey) (bags x y)
+      by-test (inr e) = rw (e, alikeOn, sameKey) refl
+
+  left-key : (x : ℕ) → isRep a x ≡ true → keyOn (x + 0) ≡ keyOf a left x
+  unfolding keyOf
+  left-key x h =
+      let e : x + 0 ≡ x = omega arith in
+      let l = rep-known a wa x h in
+      ap keyOn e ∙ same-keys _ _ _ _ (p .left-there x l) (joined-left a b wa wb one (coloursOn w) left (p .left-there) x (omega (arith, l, wa .few-elements)))
+
+  right-key : (y : ℕ) → isRep b y ≡ true → keyOn (y + 64) ≡ keyOf b right y
+  unfolding keyOf raised
+  right-key y h = same-keys _ _ _ _ (p .right-there y (rep-known b wb y h)) (joined-right a b wa wb one (coloursOn w) right (p .right-there) y)
+
+  abbrev sides : Sides
+  sides = record { left = left; right = right }
+
+  abbrev pub firstHeld : List ℕ
+  firstHeld = heldAfter (alikeOn cells w) (a .roots) 0 [] (upFrom 0 (size a))
+
+  pub new-left : grouped (alikeOn cells w) (a .roots) 0 [] (upFrom 0 (size a)) ≡ round a b (record { left = left; right = right }) .left
+  unfolding round
+  new-left = grouped-left a b sides keyOn (alikeOn cells w) left-key right-key (λ x y _ _. alike-keys x y)
+
+  pub new-right : grouped (alikeOn cells w) (b .roots) 64 firstHeld (upFrom 0 (size b)) ≡ round a b (record { left = left; right = right }) .right
+  unfolding round
+  new-right = grouped-right a b sides keyOn (alikeOn cells w) left-key right-key (λ x y _ _. alike-keys x y)
+
+  pub prepared-ready : Ready cells w
+  prepared-ready = record { linked = p .board .linked; small = small; empty = p .board .empty; other-empty = p .board .other-empty }
+    where
+      small : Small cells w
+      small c h =
+          omega (
+            arith,
+            getD-part w numberStart cells c 0 h,
+            ap (λ (ns : List ℕ). getD ns c 0) (p .numbered),
+            numbers-small (coloursOn w) (joined a b) (joined-even a b wa wb one) 0 c (omega (arith, h, p .board .as-many)),
+            p .board .as-many,
+            p .board .linked .few,
+          )
+
+-- the same, said of files
+module _ (s t : List ℕ) (l m : Layout) (rs : Reads s l) (rt : Reads t m) (one : sameSignature (signature (modelOf s)) (signature (modelOf t)) ≡ true)
+    (cells : ℕ) (left right w : List ℕ) (p : Prepared (modelOf s) (modelOf t) cells left right w) (fits : length left ≡ size (modelOf s)) (other-fits : length right ≡ size (modelOf t)) where
+  abbrev a : Model
+  a = modelOf s
+
+  abbrev b : Model
+  b = modelOf t
+
+  wa : WellFormed (modelOf s)
+  wa = reads-formed s l rs
+
+  wb : WellFormed (modelOf t)
+  wb = reads-formed t m rt
+
+  pub first-ready :
+      (holders : List ℕ) → length holders ≡ 128
+      → Ready cells w × (length (rootsIn s l) ≤ 64) × (0 ≤ 64) × (0 + length (rootsIn s l) ≤ length holders) × (length holders ≤ 128) × ((i : ℕ) → i < 0 → getD holders i 0 < 128) × (length (rootsIn s l) ≤ length left)
+  first-ready holders h =
+      (prepared-ready a b wa wb one cells left right w p, roots-few s l rs, omega arith, omega (arith, roots-few s l rs, h), omega (arith, h), (λ i k. absurd (omega (arith, k))), omega (arith, roots-count s l rs, fits))
+
+  pub second-ready :
+      (w' holders holders' : List ℕ) (held : ℕ) → w' ≡ w → length holders ≡ 128 → (held ≤ 0 + length (rootsIn s l)) × ((i : ℕ) → i < held → getD holders' i 0 < 128) × (length holders' ≡ length holders)
+      → Ready cells w' × (length (rootsIn t m) ≤ 64) × (64 ≤ 64) × (held + length (rootsIn t m) ≤ length holders') × (length holders' ≤ 128) × ((i : ℕ) → i < held → getD holders' i 0 < 128) × (length (rootsIn t m) ≤ length right)
+  second-ready w' holders holders' held e h k =
+      (rw e (prepared-ready a b wa wb one cells left right w p), roots-few t m rt, omega arith, omega (arith, k .0, k .2, h, roots-few s l rs, roots-few t m rt), omega (arith, k .2, h), k .1, omega (arith, roots-count t m rt, other-fits))
+
+  -- the left's list, and what it holds
+  first-list : (holders : List ℕ) → grouped (alikeOn cells w) (rootsIn s l) 0 (take 0 holders) (upFrom 0 (length (rootsIn s l))) ≡ round a b (record { left = left; right = right }) .left
+  first-list holders =
+      ap₂ (λ (roots : List ℕ) (n : ℕ). grouped (alikeOn cells w) roots 0 [] (upFrom 0 n)) (roots-between s l rs) (roots-count s l rs)
+      ∙ new-left a b wa wb one cells left right w p
+
+  second-list :
+      (holders₀ holders : List ℕ) (held : ℕ) → take held holders ≡ heldAfter (alikeOn cells w) (rootsIn s l) 0 (take 0 holders₀) (upFrom 0 (length (rootsIn s l)))
+      → grouped (alikeOn cells w) (rootsIn t m) 64 (take held holders) (upFrom 0 (length (rootsIn t m))) ≡ round a b (record { left = left; right = right }) .right
+  second-list holders₀ holders held e =
+      ap (λ (H : List ℕ). grouped (alikeOn cells w) (rootsIn t m) 64 H (upFrom 0 (length (rootsIn t m))))
+      (e ∙ ap₂ (λ (roots : List ℕ) (n : ℕ). heldAfter (alikeOn cells w) roots 0 [] (upFrom 0 n)) (roots-between s l rs) (roots-count s l rs))
+      ∙ ap₂ (λ (roots : List ℕ) (n : ℕ). grouped (alikeOn cells w) roots 64 (firstHeld a b wa wb one cells left right w p) (upFrom 0 n)) (roots-between t m rt) (roots-count t m rt)
+      ∙ new-right a b wa wb one cells left right w p
+
+  pub recoloured-both :
+      (holders₀ holders : List ℕ) (held : ℕ) (w' left' right' : List ℕ)
+      → left' ≡ over (grouped (alikeOn cells w) (rootsIn s l) 0 (take 0 holders₀) (upFrom 0 (length (rootsIn s l)))) left
+      → take held holders ≡ heldAfter (alikeOn cells w) (rootsIn s l) 0 (take 0 holders₀) (upFrom 0 (length (rootsIn s l)))
+      → w' ≡ w
+      → right' ≡ over (grouped (alikeOn cells w') (rootsIn t m) 64 (take held holders) (upFrom 0 (length (rootsIn t m)))) right
+      → _≡_ {A = Sides} (record { left = left'; right = right' }) (round a b (record { left = left; right = right }))
+  recoloured-both holders₀ holders held w' left' right' e h k f =
+      ap₂ (λ (x y : List ℕ). record { left = x; right = y })
+      (e ∙ over-whole _ left (grouped-length (alikeOn cells w) (rootsIn s l) 0 (take 0 holders₀) (upFrom 0 (length (rootsIn s l))) ∙ length-upFrom 0 (length (rootsIn s l)) ∙ roots-count s l rs ∙ sym fits) ∙ first-list holders₀)
+      (f ∙ ap (λ (v : List ℕ). over (grouped (alikeOn cells v) (rootsIn t m) 64 (take held holders) (upFrom 0 (length (rootsIn t m)))) right) k
+      ∙ over-whole _ right (grouped-length (alikeOn cells w) (rootsIn t m) 64 (take held holders) (upFrom 0 (length (rootsIn t m))) ∙ length-upFrom 0 (length (rootsIn t m)) ∙ roots-count t m rt ∙ sym other-fits)
+      ∙ second-list holders₀ holders held h)
+
+  -- the board is as it was
+  pub board-kept : (w' w'' : List ℕ) → w' ≡ w → w'' ≡ w' → Board (modelOf s) (modelOf t) cells w''
+  board-kept w' w'' e f = rw (f, e) (p .board)
+
+-- rows whose fronts were recoloured
+module _ (a b : Model) (row other : List ℕ) (n m : ℕ) (en : n ≡ size a) (em : m ≡ size b) (fits : n ≤ length row) (other-fits : m ≤ length other)
+    (new new' : List ℕ) (long : length new ≡ length (take n row)) (long' : length new' ≡ length (take m other)) where
+  pub put-together :
+      _≡_ {A = Sides} (record { left = new; right = new' }) (round a b (record { left = take n row; right = take m other }))
+      → _≡_ {A = Sides} (record { left = take (size a) (new ++ drop n row); right = take (size b) (new' ++ drop m other) }) (round a b (record { left = take (size a) row; right = take (size b) other }))
+  put-together e =
+      ap₂ (λ (x y : List ℕ). record { left = x; right = y })
+      (ap (λ (k : ℕ). take k (new ++ drop n row)) (sym en) ∙ back-front n row new fits long) (ap (λ (k : ℕ). take k (new' ++ drop m other)) (sym em) ∙ back-front m other new' other-fits long')
+      ∙ e ∙ ap₂ (λ (j k : ℕ). round a b (record { left = take j row; right = take k other })) en em

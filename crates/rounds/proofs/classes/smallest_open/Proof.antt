@@ -1,0 +1,32 @@
+-- `rounds::classes::smallest_open` meets its contract: the roots that are handed on are the model's. Assumes nothing.
+use mathlib.Core.Path.{_∙_}
+use native.Mathlib.Omega.{arith}
+use borrow.Author.Needs.{needs}
+use Rattle.stored.proofs.Laws.Reading.{roots-inside}
+use Rattle.rows.proofs.Laws.Given.{roots-few}
+use Rattle.rounds.proofs.Laws.Classes.{open-handed}
+use Rattle.rounds.proofs.classes.smallest_open.Statement.{statement}
+use Rattle.rounds.proofs.classes.smallest_open.Tie as tie
+
+add-end : tie.Need-add-end
+add-end c = omega (arith, roots-inside _ _ (c .before .before .before .pre .0))
+
+sub-smallest-in : tie.Need-sub-smallest-in
+sub-smallest-in c = search needs
+
+part-smallest-in-start : tie.Need-part-smallest-in-start
+part-smallest-in-start c = search needs
+
+part-smallest-in-end : tie.Need-part-smallest-in-end
+part-smallest-in-end c = roots-inside _ _ (c .before .before .before .pre .0)
+
+smallest-in-requires : tie.Need-smallest-in-requires
+smallest-in-requires c κs = roots-few _ _ (c .before .before .before .before .pre .0)
+
+returns : tie.Need-returns
+returns c = c .smallest-in .ensures ∙ open-handed _ _ (c .before .before .before .before .before .pre .0) _
+
+pub smallest-open-spec : {M : Type 1} → statement M
+smallest-open-spec =
+    tie.close
+    (tie.spec add-end sub-smallest-in part-smallest-in-start part-smallest-in-end smallest-in-requires returns)

@@ -1,0 +1,158 @@
+// One round over both models: new colours by the keys, from one palette for both sides.
+ghost use mathlib.Core.Path.{_≡_};
+ghost use mathlib.Core.Bool.{true};
+ghost use mathlib.Core.List.{[]};
+ghost use Prim.Native.Nat.{ℕ, _≤_};
+ghost use lib.ListN.{length, getD, take};
+ghost use Rattle.lists.specs.Part.{over};
+ghost use Rattle.stored.specs.Model.{size};
+ghost use Rattle.stored.specs.Signature.{signature, sameSignature};
+ghost use Rattle.stored.specs.Reading.{Reads, modelOf};
+ghost use Rattle.rounds.specs.Round.{Sides};
+ghost use Rattle.rounds.specs.Round as rounds;
+ghost use Rattle.rounds.specs.Board.{boardRoom, countStart, otherStart, Empty, Board, Prepared};
+use crate::board::lay;
+use crate::board::link;
+use crate::group::group_side;
+use crate::numbers::number_cells;
+use stored::layout::Layout;
+
+const COLOURS: usize = 20608;
+
+const OTHER_COLOURS: usize = 20672;
+
+// Lays both models out on a board with empty tables; answers how many cells there are.
+pub fn set_up(
+    left: &[u8],
+    in_left: Layout,
+    right: &[u8],
+    in_right: Layout,
+    board: &mut [u16],
+) -> usize
+    requires { ⌜ Reads (now left) «in_left» × Reads (now right) «in_right» × (sameSignature (signature (modelOf (now left))) (signature (modelOf (now right))) ≡ true) × (length (now board) ≡ boardRoom) × Empty countStart (now board) × Empty otherStart (now board) ⌝ }
+    ensures { λ r. ⌜ Board (modelOf (now (left .entry))) (modelOf (now (right .entry))) r (now (board .exit)) ⌝ }
+{
+    let cells = lay(left, in_left, right, in_right, board);
+    link(board, cells);
+    cells
+}
+
+// Writes colours over the front of `out`.
+fn write_colours(colours: &[u16], out: &mut [u16])
+    requires { ⌜ length (now colours) ≤ length (now out) ⌝ }
+    ensures { λ _. ⌜ now (out .exit) ≡ over (now (colours .entry)) (now (out .entry)) ⌝ }
+{
+    let mut x: usize = 0;
+    while x < colours.len() {
+        out[x] = colours[x];
+        x += 1;
+    }
+}
+
+// Puts the colours of both sides on the board, and numbers its cells by them.
+fn prepare(
+    left: &[u8],
+    in_left: Layout,
+    right: &[u8],
+    in_right: Layout,
+    cells: usize,
+    left_colours: &[u16],
+    right_colours: &[u16],
+    board: &mut [u16],
+)
+    requires { ⌜ Reads (now left) «in_left» × Reads (now right) «in_right» × (sameSignature (signature (modelOf (now left))) (signature (modelOf (now right))) ≡ true) × Board (modelOf (now left)) (modelOf (now right)) cells (now board) × (length (now «left_colours») ≡ size (modelOf (now left))) × (length (now «right_colours») ≡ size (modelOf (now right))) ⌝ }
+    ensures { λ _. ⌜ Prepared (modelOf (now (left .entry))) (modelOf (now (right .entry))) cells (now («left_colours» .entry)) (now («right_colours» .entry)) (now (board .exit)) ⌝ }
+{
+    write_colours(left_colours, &mut board[COLOURS..]);
+    write_colours(right_colours, &mut board[OTHER_COLOURS..]);
+    number_cells(left, in_left, right, in_right, board);
+}
+
+// Room for the holders of keys.
+fn no_holders() -> [u16; 128]
+    ensures { λ r. ⌜ length r ≡ 128 ⌝ }
+{
+    [0u16; 128]
+}
+
+// Recolours both sides, each over the front of its output.
+fn recolour(
+    left: &[u8],
+    in_left: Layout,
+    right: &[u8],
+    in_right: Layout,
+    cells: usize,
+    left_colours: &mut [u16],
+    right_colours: &mut [u16],
+    board: &mut [u16],
+)
+    requires { ⌜ Reads (now left) «in_left» × Reads (now right) «in_right» × (sameSignature (signature (modelOf (now left))) (signature (modelOf (now right))) ≡ true) × Board (modelOf (now left)) (modelOf (now right)) cells (now board) × (length (now «left_colours») ≡ size (modelOf (now left))) × (length (now «right_colours») ≡ size (modelOf (now right))) ⌝ }
+    ensures recoloured { λ _. ⌜ record { left = now («left_colours» .exit); right = now («right_colours» .exit) } ≡ rounds.round (modelOf (now (left .entry))) (modelOf (now (right .entry))) (record { left = now («left_colours» .entry); right = now («right_colours» .entry) }) ⌝ }
+    ensures board { λ _. ⌜ Board (modelOf (now (left .entry))) (modelOf (now (right .entry))) cells (now (board .exit)) ⌝ }
+{
+    prepare(
+        left,
+        in_left,
+        right,
+        in_right,
+        cells,
+        left_colours,
+        right_colours,
+        board,
+    );
+    let start = in_left.roots;
+    let end = start + in_left.size;
+    let other_start = in_right.roots;
+    let other_end = other_start + in_right.size;
+    let mut holders = no_holders();
+    let held = group_side(
+        board,
+        cells,
+        &left[start..end],
+        0,
+        &mut holders,
+        0,
+        left_colours,
+    );
+    group_side(
+        board,
+        cells,
+        &right[other_start..other_end],
+        64,
+        &mut holders,
+        held,
+        right_colours,
+    );
+}
+
+// One round: the colours of both sides, in two rows of 64, recoloured (`refine_colors` of model_hom.rs).
+pub fn round(
+    left: &[u8],
+    in_left: Layout,
+    right: &[u8],
+    in_right: Layout,
+    cells: usize,
+    colours: [[u16; 64]; 2],
+    board: &mut [u16],
+) -> [[u16; 64]; 2]
+    requires { ⌜ Reads (now left) «in_left» × Reads (now right) «in_right» × (sameSignature (signature (modelOf (now left))) (signature (modelOf (now right))) ≡ true) × Board (modelOf (now left)) (modelOf (now right)) cells (now board) × (length (getD colours 0 []) ≡ 64) × (length (getD colours 1 []) ≡ 64) ⌝ }
+    ensures recoloured { λ r. ⌜ record { left = take (size (modelOf (now (left .entry)))) (getD r 0 []); right = take (size (modelOf (now (right .entry)))) (getD r 1 []) } ≡ rounds.round (modelOf (now (left .entry))) (modelOf (now (right .entry))) (record { left = take (size (modelOf (now (left .entry)))) (getD colours 0 []); right = take (size (modelOf (now (right .entry)))) (getD colours 1 []) }) ⌝ }
+    ensures shape { λ r. ⌜ (length r ≡ 2) × (length (getD r 0 []) ≡ 64) × (length (getD r 1 []) ≡ 64) ⌝ }
+    ensures board { λ _. ⌜ Board (modelOf (now (left .entry))) (modelOf (now (right .entry))) cells (now (board .exit)) ⌝ }
+{
+    let n = in_left.size;
+    let m = in_right.size;
+    let mut row = colours[0];
+    let mut other = colours[1];
+    recolour(
+        left,
+        in_left,
+        right,
+        in_right,
+        cells,
+        &mut row[..n],
+        &mut other[..m],
+        board,
+    );
+    [row, other]
+}

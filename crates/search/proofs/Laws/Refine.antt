@@ -1,0 +1,287 @@
+-- The laws of a round and what follows it: the state of each phase, the choice that a stable round opens, and the parts of the lent work that come
+-- back. Assumes nothing.
+use Prim.Native.Nat.{ℕ, _+_, _*_, _<_, _≤_}
+use mathlib.Core.Path.{_≡_, refl, sym, _∙_, ap, ap₂}
+use mathlib.Core.Bool.{Bool, true, false}
+use mathlib.Core.List.{List, [], _∷_, _++_}
+use native.Mathlib.Omega.{arith}
+use borrow.Author.Tests.{ne-eqb, eq-eqb}
+use lib.ListN.{length, getD, take, drop, length-append, take-append-drop}
+use lib.Seq.{take-at, drop-at, drop-drop, length-take-le, length-front}
+use Rattle.lists.specs.Numbers.{upFrom}
+use Rattle.lists.proofs.Laws.Different.{keep-fits}
+use Rattle.lists.proofs.Laws.First.{lowest-within}
+use Rattle.lists.proofs.Laws.Numbers.{length-upFrom}
+use Rattle.lists.proofs.Laws.Part.{length-part}
+use Rattle.lists.proofs.Laws.Tests.{clash}
+use Rattle.stored.specs.declared.layout.Layout.{Layout}
+use Rattle.stored.specs.Limits.{maxElements}
+use Rattle.stored.specs.Model.{Model, size, isRep}
+use Rattle.stored.specs.Reading.{Reads, modelOf}
+use Rattle.stored.proofs.Laws.Reading.{reads-formed, size-is}
+use Rattle.rows.proofs.Laws.Given.{rootsIn, roots-few, size-few}
+use Rattle.rounds.specs.declared.colour.Colour.{Colour}
+use Rattle.rounds.specs.declared.classes.Open.{Open as Found}
+use Rattle.rounds.specs.declared.classes.Open.the-variants as found
+use Rattle.rounds.specs.Board.{boardRoom, Board}
+use Rattle.rounds.specs.Classes.{allSingle, openAt, openOf, smallestOpen, lowestOf}
+use Rattle.rounds.specs.Parts.{hasColour}
+use Rattle.rounds.specs.Round.{Sides, Outcome, dead, stable, again, colourCount, equalCounts, round, roundOutcome}
+use Rattle.rounds.proofs.Laws.Classes.{open-none, open-at}
+use Rattle.rounds.proofs.Laws.Parts.{lowest-handed}
+use Rattle.rounds.proofs.Theorems.Classes.{count-fits, outcome-stable, outcome-again, when-stable, when-again}
+use Rattle.rounds.proofs.Theorems.Keys.{reps-kept}
+use Rattle.search.specs.declared.machine.Phase.{Phase}
+use Rattle.search.specs.declared.machine.Phase.the-variants as phase
+use Rattle.search.specs.Machine.{Choice, refine, close, choose, choiceAt, afterStable, afterRound}
+use Rattle.search.specs.Answer.{workRoom}
+use Rattle.search.specs.Choices.{choiceLength, choicesOn, choicesIn, sidesIn, Rows, stateOf, Settled, Opened}
+use Rattle.search.proofs.Laws.Choices.{opened-at}
+
+-- the state of each phase
+module _ (c : Sides) (choices : List Choice) where
+  pub state-refine : stateOf phase.Refine c choices ≡ refine c choices
+  unfolding stateOf
+  state-refine = refl
+
+  pub state-close : stateOf phase.Close c choices ≡ close c choices
+  unfolding stateOf
+  state-close = refl
+
+  pub state-choose : stateOf phase.Choose c choices ≡ choose choices
+  unfolding stateOf
+  state-choose = refl
+
+  -- what follows a stable round
+  module _ (a b : Model) where
+    stable-single : afterStable a b c choices allSingle ≡ close c choices
+    unfolding afterStable
+    stable-single = refl
+
+    stable-open : (k : ℕ) → afterStable a b c choices (openAt k) ≡ choose (choiceAt a b c k ∷ choices)
+    unfolding afterStable
+    stable-open k = refl
+
+-- the colours of a side are no more than its elements
+module _ (s : List ℕ) (l : Layout) (reads : Reads s l) (colours : List ℕ) where
+  pub few-colours : colourCount (modelOf s) colours ≤ maxElements
+  few-colours =
+      omega (arith, count-fits (modelOf s) colours, ap length (reps-kept (modelOf s)), keep-fits (isRep (modelOf s)) (upFrom 0 (size (modelOf s))), length-upFrom 0 (size (modelOf s)), reads-formed s l reads .few-elements)
+
+  pub low-element : (k : ℕ) → lowestOf (modelOf s) colours k ≤ maxElements
+  low-element k = omega (arith, lowest-handed s l reads colours k, lowest-within (hasColour (rootsIn s l) colours k) 0 (length (rootsIn s l)) .1, roots-few s l reads)
+
+-- a stable round: what the class looked for comes to
+module _ (a : Model) (left right w₀ : List ℕ) (depth : ℕ) (r : Found) (is : openOf r ≡ smallestOpen a left) where
+  abbrev sides : Sides
+  sides = record { left = left; right = right }
+
+  pub settled-single : r ≡ found.AllSingle → Settled a left right w₀ depth phase.Close depth w₀
+  settled-single q = record {
+    settled = λ b e.
+        state-close sides (choicesIn a b w₀ depth)
+        ∙ sym (stable-single sides (choicesIn a b w₀ depth) a b)
+        ∙ ap (afterStable a b sides (choicesIn a b w₀ depth)) (sym open-none ∙ sym (ap openOf q) ∙ is);
+    within = omega arith;
+  }
+
+  module _ (k : Colour) (q : r ≡ found.At k) (x count : ℕ) (x-is : x ≡ lowestOf a left (k .0)) (count-is : count ≡ colourCount a left) (fits : length left ≡ size a) (w : List ℕ) where
+    opened-so : Opened w₀ depth left right x (k .0) count w → Opened w₀ depth left right (lowestOf a left (k .0)) (k .0) (colourCount a left) w
+    opened-so o = rw (← x-is, ← count-is) o
+
+    pub settled-open : Opened w₀ depth left right x (k .0) count w → Settled a left right w₀ depth phase.Choose (depth + 1) w
+    settled-open o = record {
+      settled = λ b e.
+          state-choose sides (choicesIn a b w (depth + 1))
+          ∙ ap choose (opened-at a b sides (k .0) w₀ depth w (sym fits) e (opened-so o))
+          ∙ sym (stable-open sides (choicesIn a b w₀ depth) a b (k .0))
+          ∙ ap (afterStable a b sides (choicesIn a b w₀ depth)) (sym (open-at k) ∙ sym (ap openOf q) ∙ is);
+      within = omega arith;
+    }
+
+-- what follows a round
+module _ (a b : Model) (choices : List Choice) where
+  round-dead : afterRound a b choices dead ≡ choose choices
+  unfolding afterRound
+  round-dead = refl
+
+  round-again : (c : Sides) → afterRound a b choices (again c) ≡ refine c choices
+  unfolding afterRound
+  round-again c = refl
+
+  round-stable : (c : Sides) → afterRound a b choices (stable c) ≡ afterStable a b c choices (smallestOpen a (c .left))
+  unfolding afterRound
+  round-stable c = refl
+
+-- a round with unequal counts is a dead end
+dead-end : (a b : Model) (c : Sides) → equalCounts a b (round a b c) ≡ false → roundOutcome a b c ≡ dead
+dead-end a b c f = go (roundOutcome a b c) refl
+  where
+    go : (o : Outcome) → roundOutcome a b c ≡ o → roundOutcome a b c ≡ dead
+    go dead q = q
+    go (stable d) q = clash (when-stable a b c d q .0 .equal) f
+    go (again d) q = clash (when-again a b c d q .0 .equal) f
+
+-- a row of 64 has room for a side
+module _ (s : List ℕ) (l : Layout) (r : Reads s l) (row : List ℕ) (h : length row ≡ 64) where
+  pub side-room : l .size ≤ length row
+  side-room = omega (arith, h, size-few s l r)
+
+  pub side-front : l .size ≡ length (take (l .size) row)
+  side-front = sym (length-take-le (l .size) row side-room)
+
+  pub side-long : length (take (l .size) row) ≡ size (modelOf s)
+  side-long = sym side-front ∙ size-is s l r
+
+  pub side-few : length (take (l .size) row) ≤ maxElements
+  side-few = omega (arith, side-front, size-few s l r)
+
+-- two rows of 64 before a round and after it, with the sizes of both sides and how many colours the left had before it
+pub record Rounded (a b : Model) (n m : ℕ) (c₀ c : List (List ℕ)) (before : ℕ) : Type 0 where
+  pub left-size : n ≡ size a
+  pub right-size : m ≡ size b
+  pub is-round : sidesIn a b c ≡ round a b (sidesIn a b c₀)
+  pub had : before ≡ colourCount a (sidesIn a b c₀ .left)
+
+pub rounded-rows :
+    (s t : List ℕ) (l m : Layout) → Reads s l → Reads t m → (c₀ c : List (List ℕ)) (before : ℕ)
+    → _≡_ {A = Sides} (record { left = take (size (modelOf s)) (getD c 0 []); right = take (size (modelOf t)) (getD c 1 []) })
+    (round (modelOf s) (modelOf t) (record { left = take (size (modelOf s)) (getD c₀ 0 []); right = take (size (modelOf t)) (getD c₀ 1 []) }))
+    → before ≡ colourCount (modelOf s) (take (l .size) (getD c₀ 0 []))
+    → Rounded (modelOf s) (modelOf t) (l .size) (m .size) c₀ c before
+unfolding sidesIn
+rounded-rows s t l m rs rt c₀ c before e h = record {
+  left-size = size-is s l rs;
+  right-size = size-is t m rt;
+  is-round = e;
+  had = h ∙ ap (λ (k : ℕ). colourCount (modelOf s) (take k (getD c₀ 0 []))) (size-is s l rs);
+}
+
+module _ {a b : Model} {n m : ℕ} {c₀ c : List (List ℕ)} {before : ℕ} (u : Rounded a b n m c₀ c before) where
+  abbrev fronts : Sides
+  fronts = record { left = take n (getD c 0 []); right = take m (getD c 1 []) }
+
+  fronts-are : fronts ≡ sidesIn a b c
+  unfolding sidesIn
+  fronts-are = ap₂ (λ (i j : ℕ). record { left = take i (getD c 0 []); right = take j (getD c 1 []) }) (u .left-size) (u .right-size)
+
+  abbrev new : Sides
+  new = round a b (sidesIn a b c₀)
+
+  fronts-new : fronts ≡ new
+  fronts-new = fronts-are ∙ u .is-round
+
+  module _ (r : Bool) (told : r ≡ equalCounts a b fronts) where
+    equal-is : (x : Bool) → r ≡ x → equalCounts a b new ≡ x
+    equal-is x q = sym (ap (equalCounts a b) fronts-new) ∙ sym told ∙ q
+
+    -- a dead end
+    pub state-dead : (due : Sides) (v v₀ : List ℕ) (depth : ℕ) → v ≡ v₀ → r ≡ false → stateOf phase.Choose due (choicesIn a b v depth) ≡ afterRound a b (choicesIn a b v₀ depth) (roundOutcome a b (sidesIn a b c₀))
+    state-dead due v v₀ depth e q =
+        state-choose due (choicesIn a b v depth)
+        ∙ ap (λ (x : List ℕ). choose (choicesIn a b x depth)) e
+        ∙ sym (round-dead a b (choicesIn a b v₀ depth))
+        ∙ ap (afterRound a b (choicesIn a b v₀ depth)) (sym (dead-end a b (sidesIn a b c₀) (equal-is false q)))
+
+    -- how many colours the left has
+    module _ (q : r ≡ true) (after : ℕ) (has : after ≡ colourCount a (take n (getD c 0 []))) where
+      has-new : after ≡ colourCount a (new .left)
+      has-new = has ∙ ap (λ (x : Sides). colourCount a (x .left)) fronts-new
+
+      -- more than before: another round
+      pub state-again : (v v₀ : List ℕ) (depth : ℕ) → v ≡ v₀ → (after ≡ before → ⊥) → stateOf phase.Refine (sidesIn a b c) (choicesIn a b v depth) ≡ afterRound a b (choicesIn a b v₀ depth) (roundOutcome a b (sidesIn a b c₀))
+      state-again v v₀ depth e d =
+          state-refine (sidesIn a b c) (choicesIn a b v depth)
+          ∙ ap₂ (λ (x : Sides) (y : List ℕ). refine x (choicesIn a b y depth)) (u .is-round) e
+          ∙ sym (round-again a b (choicesIn a b v₀ depth) new)
+          ∙ ap (afterRound a b (choicesIn a b v₀ depth))
+          (sym (outcome-again a b (sidesIn a b c₀) new (equal-is true q) (ne-eqb _ _ (λ k. d (has-new ∙ k ∙ sym (u .had))))))
+
+      -- as many as before: the round is stable
+      pub state-stable :
+          (v₁ v₀ v v′ : List ℕ) (depth : ℕ) (due : Phase) (left : ℕ) → v₁ ≡ v₀ → v′ ≡ v → after ≡ before → length (take m (getD c 1 [])) ≡ size b
+          → Settled a (take n (getD c 0 [])) (take m (getD c 1 [])) v₁ depth due left v
+          → stateOf due (sidesIn a b c) (choicesIn a b v′ left) ≡ afterRound a b (choicesIn a b v₀ depth) (roundOutcome a b (sidesIn a b c₀))
+      state-stable v₁ v₀ v v′ depth due left e e′ same long o =
+          ap₂ (λ (x : Sides) (y : List ℕ). stateOf due x (choicesIn a b y left)) (sym fronts-are) e′
+          ∙ o .settled b (sym long)
+          ∙ ap₂ (λ (x : Sides) (y : List ℕ). afterStable a b x (choicesIn a b y depth) (smallestOpen a (x .left))) fronts-new e
+          ∙ sym (round-stable a b (choicesIn a b v₀ depth) new)
+          ∙ ap (afterRound a b (choicesIn a b v₀ depth)) (sym (outcome-stable a b (sidesIn a b c₀) new (equal-is true q) (eq-eqb _ _ (sym has-new ∙ same ∙ u .had))))
+
+-- the lent work with its first part come back: the board is what came back, the choices and all past them are as they were
+pub record BoardBack (w new w′ : List ℕ) : Type 0 where
+  pub front : take boardRoom w′ ≡ new
+  pub choices : choicesOn w′ ≡ choicesOn w
+  pub long : length w′ ≡ length w
+  pub rest : drop workRoom w′ ≡ drop workRoom w
+  pub room : workRoom ≤ length w′
+
+pub board-back : (w new : List ℕ) → workRoom ≤ length w → length new ≡ length (take boardRoom w) → BoardBack w new (new ++ drop boardRoom w)
+board-back w new room long = record {
+  front = take-at new (drop boardRoom w) boardRoom new-long;
+  choices = ap (take 12032) past;
+  long = same;
+  rest = sym (drop-drop 12032 boardRoom (new ++ drop boardRoom w)) ∙ ap (drop 12032) past ∙ drop-drop 12032 boardRoom w;
+  room = omega (arith, same);
+}
+  where
+    new-long : length new ≡ boardRoom
+    new-long = long ∙ length-take-le boardRoom w (omega arith)
+
+    past : drop boardRoom (new ++ drop boardRoom w) ≡ drop boardRoom w
+    past = drop-at new (drop boardRoom w) boardRoom new-long
+
+    same : length (new ++ drop boardRoom w) ≡ length w
+    same = length-front w new boardRoom long
+
+module _ {w new w′ : List ℕ} (f : BoardBack w new w′) where
+  pub board-kept : (a b : Model) (cells : ℕ) → Board a b cells new → Board a b cells (take boardRoom w′)
+  board-kept a b cells h = rw (f .front) h
+
+  pub choices-room : (depth : ℕ) → depth < maxElements → depth * choiceLength + choiceLength ≤ length (choicesOn w′)
+  choices-room depth h = omega (arith, length-part w′ boardRoom 12032 (f .room))
+
+-- the lent work with its second part come back: the choices are what came back, the board and all past the choices are as they were
+pub record ChoicesBack (w new w′ : List ℕ) : Type 0 where
+  pub front : take boardRoom w′ ≡ take boardRoom w
+  pub choices : choicesOn w′ ≡ new
+  pub long : length w′ ≡ length w
+  pub rest : drop workRoom w′ ≡ drop workRoom w
+
+pub choices-back : (w new : List ℕ) → workRoom ≤ length w → length new ≡ length (choicesOn w) → ChoicesBack w new (take boardRoom w ++ (new ++ drop 12032 (drop boardRoom w)))
+choices-back w new room long = record {
+  front = take-at (take boardRoom w) (new ++ drop 12032 (drop boardRoom w)) boardRoom front-long;
+  choices = ap (take 12032) past ∙ take-at new (drop 12032 (drop boardRoom w)) 12032 new-long;
+  long =
+      length-append (take boardRoom w) (new ++ drop 12032 (drop boardRoom w))
+      ∙ ap (λ (k : ℕ). length (take boardRoom w) + k) (length-front (drop boardRoom w) new 12032 long)
+      ∙ sym (length-append (take boardRoom w) (drop boardRoom w))
+      ∙ ap length (take-append-drop boardRoom w);
+  rest =
+      sym (drop-drop 12032 boardRoom (take boardRoom w ++ (new ++ drop 12032 (drop boardRoom w))))
+      ∙ ap (drop 12032) past
+      ∙ drop-at new (drop 12032 (drop boardRoom w)) 12032 new-long
+      ∙ drop-drop 12032 boardRoom w;
+}
+  where
+    front-long : length (take boardRoom w) ≡ boardRoom
+    front-long = length-take-le boardRoom w (omega arith)
+
+    new-long : length new ≡ 12032
+    new-long = long ∙ length-part w boardRoom 12032 room
+
+    past : drop boardRoom (take boardRoom w ++ (new ++ drop 12032 (drop boardRoom w))) ≡ new ++ drop 12032 (drop boardRoom w)
+    past = drop-at (take boardRoom w) (new ++ drop 12032 (drop boardRoom w)) boardRoom front-long
+
+-- what a round leaves of the rows and the lent work: the board stands, two rows of 64 are there, at most one choice more is open, and nothing past
+-- the choices was changed
+abbrev pub Left : Model → Model → ℕ → List (List ℕ) → ℕ → ℕ → List ℕ → List ℕ → Type 0
+Left a b cells c depth left w w′ = Board a b cells (take boardRoom w′) × Rows c × (left ≤ depth + 1) × (length w′ ≡ length w) × (drop workRoom w′ ≡ drop workRoom w)
+
+module _ {w new w′ : List ℕ} (f : BoardBack w new w′) (a b : Model) (cells : ℕ) (h : Board a b cells new) (c : List (List ℕ)) (rows : Rows c) (depth : ℕ) where
+  pub left-as-deep : Left a b cells c depth depth w w′
+  left-as-deep = (board-kept f a b cells h, rows, omega arith, f .long, f .rest)
+
+  pub left-deeper : {new′ w″ : List ℕ} → ChoicesBack w′ new′ w″ → (left : ℕ) → left ≤ depth + 1 → Left a b cells c depth left w w″
+  left-deeper g left l = (rw (g .front) (board-kept f a b cells h), rows, l, g .long ∙ f .long, g .rest ∙ f .rest)

@@ -1,0 +1,224 @@
+-- The laws of what the search starts from and ends with: rows of 64 whose fronts are written, the first colours, the map of the closing check, the board
+-- in cleared work, and the work cleared again. Assumes nothing.
+use Prim.Native.Nat.{ℕ, _+_, _-_, _<_, _≤_}
+use mathlib.Core.Path.{_≡_, refl, sym, _∙_, ap, ap₂, subst}
+use mathlib.Core.Bool.{Bool, true, false}
+use mathlib.Core.List.{List, [], _∷_, _++_}
+use native.Mathlib.Omega.{arith}
+use lib.ListN.{length, getD, take, drop, replicate, length-map, length-replicate, getD-replicate, List·getD-append}
+use lib.Seq.{length-take-le, length-front, getD-take, drop-at, drop-append-add, drop-drop}
+use Rattle.lists.specs.Numbers.{upFrom}
+use Rattle.lists.specs.Part.{over}
+use Rattle.lists.proofs.Laws.Numbers.{length-upFrom}
+use Rattle.lists.proofs.Laws.Over.{over-whole, back-room, back-front}
+use Rattle.stored.specs.declared.layout.Layout.{Layout}
+use Rattle.stored.specs.Model.{Model, size}
+use Rattle.stored.specs.Reading.{Reads, modelOf}
+use Rattle.stored.proofs.Laws.Reading.{size-is}
+use Rattle.rows.specs.Check.{blank}
+use Rattle.rows.proofs.Laws.Given.{size-few}
+use Rattle.rows.proofs.Laws.Check.{length-blank}
+use Rattle.rounds.specs.Colours.{leftColours, rightColours}
+use Rattle.rounds.specs.Round.{Sides}
+use Rattle.rounds.specs.Board.{countStart, otherStart, boardRoom, Empty, Board}
+use Rattle.rounds.proofs.Laws.Colours.{length-left, length-right}
+use Rattle.search.specs.Machine.{State, refine, imageOf, mapOf, closes, run}
+use Rattle.search.specs.Answer.{workRoom, cleared, ended, answerOf, written}
+use Rattle.search.specs.declared.answer.Answer.{Answer}
+use Rattle.search.specs.Find.{roundCost, startFrom}
+use Rattle.search.specs.Choices.{sidesIn, Rows, writtenIf}
+use Rattle.search.proofs.Laws.Work.{length-cleared}
+
+-- a row of 64, with an entry for each element of a file in its front
+module _ (s : List ℕ) (l : Layout) (p : Reads s l) (row : List ℕ) (h : length row ≡ 64) where
+  pub row-fits : l .size ≤ length row
+  row-fits = omega (arith, h, size-few s l p)
+
+  pub row-long : l .size ≡ length (take (l .size) row)
+  row-long = sym (length-take-le (l .size) row row-fits)
+
+  pub row-asked : size (modelOf s) ≤ length (take (l .size) row)
+  row-asked = omega (arith, row-long, size-is s l p)
+
+  -- with its front written
+  module _ (xs new : List ℕ) (long : length xs ≡ size (modelOf s)) (w : new ≡ over xs (take (l .size) row)) where
+    as-long : length xs ≡ length (take (l .size) row)
+    as-long = long ∙ sym (size-is s l p) ∙ row-long
+
+    whole : new ≡ xs
+    whole = w ∙ over-whole xs (take (l .size) row) as-long
+
+    still : length new ≡ length (take (l .size) row)
+    still = ap length whole ∙ as-long
+
+    pub row-still-fits : l .size ≤ length (new ++ drop (l .size) row)
+    row-still-fits = back-room (l .size) row new row-fits still
+
+    pub row-still-long : l .size ≡ length (take (l .size) (new ++ drop (l .size) row))
+    row-still-long = sym (length-take-le (l .size) (new ++ drop (l .size) row) row-still-fits)
+
+    pub row-front : take (l .size) (new ++ drop (l .size) row) ≡ xs
+    row-front = back-front (l .size) row new row-fits still ∙ whole
+
+    pub row-still : length (new ++ drop (l .size) row) ≡ 64
+    row-still = length-front row new (l .size) still ∙ h
+
+-- a blank table of 64 bytes
+pub table-row : (array : List ℕ) → array ≡ blank 64 → length array ≡ 64
+table-row array e = ap length e ∙ length-blank 64
+
+pub length-mapOf : (a b : Model) (c : Sides) → length (mapOf a b c) ≡ size a
+unfolding mapOf
+length-mapOf a b c = length-map (upFrom 0 (size a)) (imageOf a b c) ∙ length-upFrom 0 (size a)
+
+-- a map where the closing check passes, and where it fails
+written-yes : (f out : List ℕ) → writtenIf true f out ≡ over f out
+unfolding writtenIf
+written-yes f out = refl
+
+written-no : (f out : List ℕ) → writtenIf false f out ≡ out
+unfolding writtenIf
+written-no f out = refl
+
+-- two files that were read
+module _ (s t : List ℕ) (l m : Layout) (p : Reads s l) (q : Reads t m) where
+  abbrev a : Model
+  a = modelOf s
+
+  abbrev b : Model
+  b = modelOf t
+
+  -- the fronts of two rows, by the sizes in the layouts
+  abbrev fronts : List (List ℕ) → Sides
+  fronts c = record { left = take (l .size) (getD c 0 []); right = take (m .size) (getD c 1 []) }
+
+  fronts-sides : (c : List (List ℕ)) → fronts c ≡ sidesIn a b c
+  unfolding sidesIn
+  fronts-sides c = ap₂ (λ (i j : ℕ). record { left = take i (getD c 0 []); right = take j (getD c 1 []) }) (size-is s l p) (size-is t m q)
+
+  -- the map of the closing check, in the front of a blank table
+  module _ (c : List (List ℕ)) (array : List ℕ) (e : array ≡ blank 64) (new : List ℕ) (w : new ≡ over (mapOf a b (fronts c)) (take (l .size) array)) where
+    abbrev table : List ℕ
+    table = new ++ drop (l .size) array
+
+    pub map-fits : l .size ≤ length table
+    map-fits = row-still-fits s l p array (table-row array e) (mapOf a b (fronts c)) new (length-mapOf a b (fronts c)) w
+
+    pub map-long : l .size ≡ length (take (l .size) table)
+    map-long = row-still-long s l p array (table-row array e) (mapOf a b (fronts c)) new (length-mapOf a b (fronts c)) w
+
+    map-front : take (l .size) table ≡ mapOf a b (sidesIn a b c)
+    map-front = row-front s l p array (table-row array e) (mapOf a b (fronts c)) new (length-mapOf a b (fronts c)) w ∙ ap (mapOf a b) (fronts-sides c)
+
+    pub map-room : (out : List ℕ) → size a ≤ length out → length (take (l .size) table) ≤ length out
+    map-room out h = omega (arith, map-long, size-is s l p)
+
+    module _ (r : Bool) (v : r ≡ closes a b (take (l .size) table)) where
+      closing : r ≡ closes a b (mapOf a b (sidesIn a b c))
+      closing = v ∙ ap (closes a b) map-front
+
+      pub closed : r ≡ true → (out out' : List ℕ) → out' ≡ over (take (l .size) table) out → (true ≡ closes a b (mapOf a b (sidesIn a b c))) × (out' ≡ writtenIf true (mapOf a b (sidesIn a b c)) out)
+      closed h out out' u = (sym h ∙ closing, u ∙ ap (λ (f : List ℕ). over f out) map-front ∙ sym (written-yes (mapOf a b (sidesIn a b c)) out))
+
+      pub not-closed : r ≡ false → (out : List ℕ) → (false ≡ closes a b (mapOf a b (sidesIn a b c))) × (out ≡ writtenIf false (mapOf a b (sidesIn a b c)) out)
+      not-closed h out = (sym h ∙ closing, sym (written-no (mapOf a b (sidesIn a b c)) out))
+
+  -- the first colours, in the fronts of two rows
+  module _ (row other : List ℕ) (h : length row ≡ 64) (h' : length other ≡ 64) (f g new new' : List ℕ) (w : new ≡ over (leftColours a f) (take (l .size) row)) (w' : new' ≡ over (rightColours b (take (l .size) (new ++ drop (l .size) row)) g) (take (m .size) other)) where
+    abbrev left-row : List ℕ
+    left-row = new ++ drop (l .size) row
+
+    abbrev right-row : List ℕ
+    right-row = new' ++ drop (m .size) other
+
+    left-front : take (l .size) left-row ≡ leftColours a f
+    left-front = row-front s l p row h (leftColours a f) new (length-left a f) w
+
+    right-front : take (m .size) right-row ≡ rightColours b (leftColours a f) g
+    right-front =
+        row-front t m q other h' (rightColours b (take (l .size) left-row) g) new' (length-right b (take (l .size) left-row) g) w'
+        ∙ ap (λ (x : List ℕ). rightColours b x g) left-front
+
+    pub first-sides : _≡_ {A = Sides} (sidesIn a b (left-row ∷ right-row ∷ [])) (record { left = leftColours a f; right = rightColours b (leftColours a f) g })
+    first-sides = sym (fronts-sides (left-row ∷ right-row ∷ [])) ∙ ap₂ (λ (x y : List ℕ). record { left = x; right = y }) left-front right-front
+
+    pub first-rows : Rows (left-row ∷ right-row ∷ [])
+    first-rows = (
+      refl,
+      row-still s l p row h (leftColours a f) new (length-left a f) w,
+      row-still t m q other h' (rightColours b (take (l .size) left-row) g) new' (length-right b (take (l .size) left-row) g) w',
+    )
+
+-- cleared work: its entries, and what is left of it
+module _ (w : List ℕ) (n : ℕ) where
+  cleared-at : (i : ℕ) → i < n → getD (cleared n w) i 0 ≡ 0
+  unfolding cleared
+  cleared-at i h = List·getD-append (replicate n 0) (drop n w) 0 i (omega (arith, length-replicate {A = ℕ} n 0)) ∙ getD-replicate n i 0 0 h
+
+  cleared-rest : drop n (cleared n w) ≡ drop n w
+  unfolding cleared
+  cleared-rest = drop-at (replicate n 0) (drop n w) n (length-replicate n 0)
+
+  cleared-same : (v : List ℕ) → drop n v ≡ drop n w → cleared n v ≡ cleared n w
+  unfolding cleared
+  cleared-same v e = ap (λ (x : List ℕ). replicate n 0 ++ x) e
+
+-- a front that comes back leaves what stands behind it
+behind : (b w : List ℕ) (n k : ℕ) → length b ≡ n → n ≤ k → drop k (b ++ drop n w) ≡ drop k w
+behind b w n k e h =
+    let i : k ≡ length b + (k - n) = omega arith in
+    let j : n + (k - n) ≡ k = omega arith in
+    ap (λ (x : ℕ). drop x (b ++ drop n w)) i ∙ drop-append-add b (drop n w) (k - n) ∙ drop-drop (k - n) n w ∙ ap (λ (x : ℕ). drop x w) j
+
+-- the work of a search: cleared, with the board in its front
+module _ (w₀ w₁ : List ℕ) (room : workRoom ≤ length w₀) (e : w₁ ≡ cleared workRoom w₀) where
+  as-before : length w₁ ≡ length w₀
+  as-before = ap length e ∙ length-cleared w₀ workRoom room
+
+  pub board-fits : boardRoom ≤ length w₁
+  board-fits = omega (arith, as-before)
+
+  pub board-long : length (take boardRoom w₁) ≡ boardRoom
+  board-long = length-take-le boardRoom w₁ board-fits
+
+  board-zero : (i : ℕ) → i < boardRoom → getD (take boardRoom w₁) i 0 ≡ 0
+  board-zero i h = getD-take boardRoom w₁ i 0 h ∙ ap (λ (x : List ℕ). getD x i 0) e ∙ cleared-at w₀ workRoom i (omega arith)
+
+  pub counts-empty : Empty countStart (take boardRoom w₁)
+  counts-empty n h = board-zero (countStart + n) (omega arith)
+
+  pub others-empty : Empty otherStart (take boardRoom w₁)
+  others-empty n h = board-zero (otherStart + n) (omega arith)
+
+  -- with the board set up
+  module _ (board : List ℕ) (long : length board ≡ length (take boardRoom w₁)) where
+    pub board-there : (a b : Model) (cells : ℕ) → Board a b cells board → Board a b cells (take boardRoom (board ++ drop boardRoom w₁))
+    board-there a b cells x = subst (Board a b cells) (sym (back-front boardRoom w₁ board board-fits long)) x
+
+    still-as-before : length (board ++ drop boardRoom w₁) ≡ length w₀
+    still-as-before = length-front w₁ board boardRoom long ∙ as-before
+
+    pub work-room : workRoom ≤ length (board ++ drop boardRoom w₁)
+    work-room = omega (arith, still-as-before)
+
+    -- after a run
+    module _ (w₂ : List ℕ) (kept : (length w₂ ≡ length (board ++ drop boardRoom w₁)) × (drop workRoom w₂ ≡ drop workRoom (board ++ drop boardRoom w₁))) where
+      pub room-left : workRoom ≤ length w₂
+      room-left = omega (arith, kept .0, still-as-before)
+
+      pub cleared-again : (w₃ : List ℕ) → w₃ ≡ cleared workRoom w₂ → w₃ ≡ cleared workRoom w₀
+      cleared-again w₃ u =
+          u
+          ∙ cleared-same w₀ workRoom w₂ (kept .1 ∙ behind board w₁ boardRoom workRoom (long ∙ board-long) (omega arith) ∙ ap (drop workRoom) e ∙ cleared-rest w₀ workRoom)
+
+-- a run from the first colours
+module _ (a b : Model) (f g : List ℕ) (budget : ℕ) (start : List (List ℕ)) (e : _≡_ {A = Sides} (sidesIn a b start) (record { left = leftColours a f; right = rightColours b (leftColours a f) g })) where
+  starts : refine (sidesIn a b start) [] ≡ startFrom a b f g
+  unfolding startFrom
+  starts = ap (λ (c : Sides). refine c []) e
+
+  pub run-answer : (r : Answer) → r ≡ answerOf (ended (run budget roundCost a b budget 0 (refine (sidesIn a b start) []))) → r ≡ answerOf (ended (run budget roundCost a b budget 0 (startFrom a b f g)))
+  run-answer r v = v ∙ ap (λ (x : State). answerOf (ended (run budget roundCost a b budget 0 x))) starts
+
+  pub run-output : (out out' : List ℕ) → out' ≡ written (ended (run budget roundCost a b budget 0 (refine (sidesIn a b start) []))) out → out' ≡ written (ended (run budget roundCost a b budget 0 (startFrom a b f g))) out
+  run-output out out' v = v ∙ ap (λ (x : State). written (ended (run budget roundCost a b budget 0 x)) out) starts

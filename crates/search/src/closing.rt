@@ -1,0 +1,152 @@
+// The closing check: equal colours give the map, and every relation is compared as a set.
+ghost use mathlib.Core.Path.{_≡_};
+ghost use mathlib.Core.Bool.{true};
+ghost use mathlib.Core.List.{map as each};
+ghost use Prim.Native.Nat.{_≤_};
+ghost use lib.ListN.{length};
+ghost use Rattle.lists.specs.First.{lowest};
+ghost use Rattle.lists.specs.Numbers.{upFrom};
+ghost use Rattle.lists.specs.Part.{over};
+ghost use Rattle.stored.specs.Limits.{maxElements};
+ghost use Rattle.stored.specs.Model.{size};
+ghost use Rattle.stored.specs.Canonical.{canonical};
+ghost use Rattle.stored.specs.Signature.{signature, sameSignature};
+ghost use Rattle.stored.specs.Reading.{Reads, modelOf};
+ghost use Rattle.rounds.specs.Colours.{colourAt};
+ghost use Rattle.search.specs.Machine.{hasColour, imageIn, mapOf};
+ghost use Rattle.search.specs.Machine as machine;
+use rows::maps::is_rep;
+use rows::rows::rows_kept;
+use stored::layout::Layout;
+
+// The colour of an element; 65535 where it has none.
+fn colour_at(colours: &[u16], x: usize) -> u16
+    ensures { λ r. ⌜ r ≡ colourAt (now (colours .entry)) x ⌝ }
+{
+    if x < colours.len() { colours[x] } else { 65535 }
+}
+
+// Whether an element is a representative of a colour.
+fn has_colour(roots: &[u8], colours: &[u16], colour: u16, y: usize) -> bool
+    ensures { λ r. ⌜ r ≡ hasColour (now (roots .entry)) (now (colours .entry)) colour y ⌝ }
+{
+    if !is_rep(roots, y) {
+        return false;
+    }
+    let its_colour = colour_at(colours, y);
+    its_colour == colour
+}
+
+// The lowest representative of a colour; the number of elements where there is none.
+fn first_coloured(roots: &[u8], colours: &[u16], colour: u16) -> usize
+    ensures { λ r. ⌜ r ≡ lowest (hasColour (now (roots .entry)) (now (colours .entry)) colour) 0 (length (now (roots .entry))) ⌝ }
+{
+    let mut y: usize = 0;
+    while y < roots.len() {
+        if has_colour(roots, colours, colour, y) {
+            return y;
+        }
+        y += 1;
+    }
+    y
+}
+
+// The image of an element: of a representative the one of its colour, of an alias none.
+fn image_of(
+    roots: &[u8],
+    other_roots: &[u8],
+    left_colours: &[u16],
+    right_colours: &[u16],
+    x: usize,
+) -> u8
+    requires { ⌜ length (now «other_roots») ≤ maxElements ⌝ }
+    ensures { λ r. ⌜ r ≡ imageIn (now (roots .entry)) (now («other_roots» .entry)) (now («left_colours» .entry)) (now («right_colours» .entry)) x ⌝ }
+{
+    if !is_rep(roots, x) {
+        return 255;
+    }
+    let colour = colour_at(left_colours, x);
+    let y = first_coloured(other_roots, right_colours, colour);
+    y as u8
+}
+
+// Writes the image of each element over the front of `out`.
+fn write_map(
+    roots: &[u8],
+    other_roots: &[u8],
+    left_colours: &[u16],
+    right_colours: &[u16],
+    out: &mut [u8],
+)
+    requires { ⌜ (length (now roots) ≤ length (now out)) × (length (now «other_roots») ≤ maxElements) ⌝ }
+    ensures { λ _. ⌜ now (out .exit) ≡ over (each (imageIn (now (roots .entry)) (now («other_roots» .entry)) (now («left_colours» .entry)) (now («right_colours» .entry))) (upFrom 0 (length (now (roots .entry))))) (now (out .entry)) ⌝ }
+{
+    let mut x: usize = 0;
+    while x < roots.len() {
+        let y = image_of(roots, other_roots, left_colours, right_colours, x);
+        out[x] = y;
+        x += 1;
+    }
+}
+
+// Writes the map that equal colours give over the front of `out`.
+pub(crate) fn map_of(
+    left: &[u8],
+    in_left: Layout,
+    right: &[u8],
+    in_right: Layout,
+    left_colours: &[u16],
+    right_colours: &[u16],
+    out: &mut [u8],
+)
+    requires { ⌜ Reads (now left) «in_left» × Reads (now right) «in_right» × (size (modelOf (now left)) ≤ length (now out)) ⌝ }
+    ensures { λ _. ⌜ now (out .exit) ≡ over (mapOf (modelOf (now (left .entry))) (modelOf (now (right .entry))) (record { left = now («left_colours» .entry); right = now («right_colours» .entry) })) (now (out .entry)) ⌝ }
+{
+    let start = in_left.roots;
+    let end = start + in_left.size;
+    let other_start = in_right.roots;
+    let other_end = other_start + in_right.size;
+    write_map(
+        &left[start..end],
+        &right[other_start..other_end],
+        left_colours,
+        right_colours,
+        out,
+    );
+}
+
+// Whether a map takes the rows of each relation of the left onto those of the right (`preserves_relations` of model_hom.rs). Both models are canonical and
+// of one signature.
+pub(crate) fn closes(
+    left: &[u8],
+    in_left: Layout,
+    right: &[u8],
+    in_right: Layout,
+    map: &[u8],
+) -> bool
+    requires { ⌜ Reads (now left) «in_left» × Reads (now right) «in_right» × (sameSignature (signature (modelOf (now left))) (signature (modelOf (now right))) ≡ true) × (canonical (modelOf (now right)) ≡ true) ⌝ }
+    ensures { λ r. ⌜ r ≡ machine.closes (modelOf (now (left .entry))) (modelOf (now (right .entry))) (now (map .entry)) ⌝ }
+{
+    let relations = in_left.relations;
+    let roots_start = in_right.roots;
+    let roots_end = roots_start + in_right.size;
+    let roots = &right[roots_start..roots_end];
+    let mut k: usize = 0;
+    while k < relations {
+        let start = in_left.rows[k];
+        let count = in_left.count[k];
+        let other_start = in_right.rows[k];
+        let other_count = in_right.count[k];
+        let arity = in_left.arity[k];
+        let rows = &left[start..];
+        let others = &right[other_start..];
+        if !rows_kept(map, rows, count, roots, others, other_count, arity) {
+            return false;
+        }
+        if !rows_kept(roots, others, other_count, map, rows, count, arity) {
+            return false;
+        }
+        k += 1;
+    }
+    true
+}

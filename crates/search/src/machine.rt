@@ -1,0 +1,320 @@
+// The search as a machine: rounds, open choices, the closing check, one unit for each.
+ghost use mathlib.Core.Path.{_≡_};
+ghost use mathlib.Core.Bool.{true, false};
+ghost use mathlib.Core.List.{[]};
+ghost use Prim.Native.Nat.{ℕ, _≤_, _<_, _+_, _*_};
+ghost use lib.ListN.{length, getD, take, drop};
+ghost use Rattle.stored.specs.Limits.{maxElements};
+ghost use Rattle.stored.specs.Model.{size};
+ghost use Rattle.stored.specs.Canonical.{canonical};
+ghost use Rattle.stored.specs.Signature.{signature, sameSignature};
+ghost use Rattle.stored.specs.Reading.{Reads, modelOf};
+ghost use Rattle.rounds.specs.Colours.{leftColours, rightColours};
+ghost use Rattle.rounds.specs.Round.{colourCount, roundOutcome};
+ghost use Rattle.rounds.specs.Classes.{smallestOpen};
+ghost use Rattle.rounds.specs.Board.{boardRoom, Board};
+ghost use Rattle.search.specs.Partners.{PartnersOf};
+ghost use Rattle.search.specs.Machine.{mapOf, afterStable, afterRound};
+ghost use Rattle.search.specs.Machine as machine;
+ghost use Rattle.search.specs.Answer.{answerOf, written, cleared, workRoom, ended};
+ghost use Rattle.search.specs.Find.{roundCost, startFrom};
+ghost use Rattle.search.specs.Find as calls;
+ghost use Rattle.search.specs.Choices.{choiceLength, choicesOn, choicesIn, sidesIn, stateOf, Rows, writtenIf, Settled};
+use crate::answer::Answer;
+use crate::choices::open_choice;
+use crate::choices::reopen;
+use crate::choices::try_choice;
+use crate::closing::closes;
+use crate::closing::map_of;
+use crate::work::ROOM;
+use crate::work::clear;
+use rounds::classes::Open;
+use rounds::classes::lowest_of;
+use rounds::classes::smallest_open;
+use rounds::colours::left_colours;
+use rounds::colours::right_colours;
+use rounds::counts::colour_count;
+use rounds::counts::equal_counts;
+use rounds::round::round;
+use rounds::round::set_up;
+use rows::check::put;
+use rows::maps::no_images;
+use stored::layout::Layout;
+
+// Where the board ends in the lent work, and the open choices start.
+const BOARD: usize = 20736;
+
+// What is due: a round, the closing check, or the next candidate of the latest open choice.
+pub enum Phase {
+    Refine,
+    Close,
+    Choose,
+}
+
+// What is due next, and how many choices are open.
+pub struct Turn {
+    pub phase: Phase,
+    pub depth: usize,
+}
+
+// After a stable round: a choice is opened at the smallest left class with two or more members; where all are single the closing check is due.
+fn settle(
+    left: &[u8],
+    in_left: Layout,
+    row: &[u16],
+    other: &[u16],
+    count: usize,
+    choices: &mut [u16],
+    depth: usize,
+) -> Turn
+    requires { ⌜ Reads (now left) «in_left» × (length (now row) ≡ size (modelOf (now left))) × (length (now other) ≤ maxElements) × (count ≡ colourCount (modelOf (now left)) (now row)) × (depth * choiceLength + choiceLength ≤ length (now choices)) ⌝ }
+    ensures { λ r. ⌜ Settled (modelOf (now (left .entry))) (now (row .entry)) (now (other .entry)) (now (choices .entry)) depth (r .phase) (r .depth) (now (choices .exit)) ⌝ }
+{
+    match smallest_open(left, in_left, row) {
+        Open::AllSingle => Turn {
+            phase: Phase::Close,
+            depth,
+        },
+        Open::At(k) => {
+            let x = lowest_of(left, in_left, row, k);
+            open_choice(choices, depth, row, other, x as u16, k.0, count as u16);
+            Turn {
+                phase: Phase::Choose,
+                depth: depth + 1,
+            }
+        }
+    }
+}
+
+// One round, and what it comes to.
+fn refine(
+    left: &[u8],
+    in_left: Layout,
+    right: &[u8],
+    in_right: Layout,
+    cells: usize,
+    colours: &mut [[u16; 64]; 2],
+    work: &mut [u16],
+    depth: usize,
+) -> Turn
+    requires { ⌜ Reads (now left) «in_left» × Reads (now right) «in_right» × (sameSignature (signature (modelOf (now left))) (signature (modelOf (now right))) ≡ true) × Board (modelOf (now left)) (modelOf (now right)) cells (take boardRoom (now work)) × (workRoom ≤ length (now work)) × (depth < maxElements) × Rows (now colours) ⌝ }
+    ensures state { λ r. ⌜ stateOf (r .phase) (sidesIn (modelOf (now (left .entry))) (modelOf (now (right .entry))) (now (colours .exit))) (choicesIn (modelOf (now (left .entry))) (modelOf (now (right .entry))) (choicesOn (now (work .exit))) (r .depth)) ≡ afterRound (modelOf (now (left .entry))) (modelOf (now (right .entry))) (choicesIn (modelOf (now (left .entry))) (modelOf (now (right .entry))) (choicesOn (now (work .entry))) depth) (roundOutcome (modelOf (now (left .entry))) (modelOf (now (right .entry))) (sidesIn (modelOf (now (left .entry))) (modelOf (now (right .entry))) (now (colours .entry)))) ⌝ }
+    ensures kept { λ r. ⌜ Board (modelOf (now (left .entry))) (modelOf (now (right .entry))) cells (take boardRoom (now (work .exit))) × Rows (now (colours .exit)) × (r .depth ≤ depth + 1) × (length (now (work .exit)) ≡ length (now (work .entry))) × (drop workRoom (now (work .exit)) ≡ drop workRoom (now (work .entry))) ⌝ }
+{
+    let n = in_left.size;
+    let m = in_right.size;
+    let old = *colours;
+    let old_row = old[0];
+    let before = colour_count(left, in_left, &old_row[..n]);
+    let new = round(
+        left,
+        in_left,
+        right,
+        in_right,
+        cells,
+        old,
+        &mut work[..BOARD],
+    );
+    *colours = new;
+    let row = new[0];
+    let other = new[1];
+    if !equal_counts(left, in_left, right, in_right, &row[..n], &other[..m]) {
+        return Turn {
+            phase: Phase::Choose,
+            depth,
+        };
+    }
+    let after = colour_count(left, in_left, &row[..n]);
+    if after != before {
+        return Turn {
+            phase: Phase::Refine,
+            depth,
+        };
+    }
+    settle(
+        left,
+        in_left,
+        &row[..n],
+        &other[..m],
+        after,
+        &mut work[BOARD..ROOM],
+        depth,
+    )
+}
+
+// The closing check; where it passes, the map is written over the front of `out`.
+fn close(
+    left: &[u8],
+    in_left: Layout,
+    right: &[u8],
+    in_right: Layout,
+    colours: [[u16; 64]; 2],
+    out: &mut [u8],
+) -> bool
+    requires { ⌜ Reads (now left) «in_left» × Reads (now right) «in_right» × (sameSignature (signature (modelOf (now left))) (signature (modelOf (now right))) ≡ true) × (canonical (modelOf (now right)) ≡ true) × (size (modelOf (now left)) ≤ length (now out)) × Rows colours ⌝ }
+    ensures answer { λ r. ⌜ r ≡ machine.closes (modelOf (now (left .entry))) (modelOf (now (right .entry))) (mapOf (modelOf (now (left .entry))) (modelOf (now (right .entry))) (sidesIn (modelOf (now (left .entry))) (modelOf (now (right .entry))) colours)) ⌝ }
+    ensures output { λ r. ⌜ now (out .exit) ≡ writtenIf r (mapOf (modelOf (now (left .entry))) (modelOf (now (right .entry))) (sidesIn (modelOf (now (left .entry))) (modelOf (now (right .entry))) colours)) (now (out .entry)) ⌝ }
+{
+    let n = in_left.size;
+    let m = in_right.size;
+    let row = colours[0];
+    let other = colours[1];
+    let mut map = no_images();
+    map_of(
+        left,
+        in_left,
+        right,
+        in_right,
+        &row[..n],
+        &other[..m],
+        &mut map[..n],
+    );
+    if closes(left, in_left, right, in_right, &map[..n]) {
+        put(&map[..n], out);
+        return true;
+    }
+    false
+}
+
+// No colour anywhere.
+fn no_colours() -> [u16; 64]
+    ensures { λ r. ⌜ length r ≡ 64 ⌝ }
+{
+    [65535u16; 64]
+}
+
+// The colours that the search starts from.
+fn first_colours(
+    left: &[u8],
+    in_left: Layout,
+    right: &[u8],
+    in_right: Layout,
+    to_right: &[u8],
+    to_left: &[u8],
+) -> [[u16; 64]; 2]
+    requires { ⌜ Reads (now left) «in_left» × Reads (now right) «in_right» ⌝ }
+    ensures colours { λ r. ⌜ sidesIn (modelOf (now (left .entry))) (modelOf (now (right .entry))) r ≡ record { left = leftColours (modelOf (now (left .entry))) (now («to_right» .entry)); right = rightColours (modelOf (now (right .entry))) (leftColours (modelOf (now (left .entry))) (now («to_right» .entry))) (now («to_left» .entry)) } ⌝ }
+    ensures shape { λ r. ⌜ Rows r ⌝ }
+{
+    let n = in_left.size;
+    let m = in_right.size;
+    let mut row = no_colours();
+    left_colours(left, in_left, to_right, &mut row[..n]);
+    let mut other = no_colours();
+    right_colours(right, in_right, &row[..n], to_left, &mut other[..m]);
+    [row, other]
+}
+
+// The machine's run from some colours with no open choice (`search` of model_hom.rs).
+fn run(
+    left: &[u8],
+    in_left: Layout,
+    right: &[u8],
+    in_right: Layout,
+    cells: usize,
+    start: [[u16; 64]; 2],
+    budget: u64,
+    out: &mut [u8],
+    work: &mut [u16],
+) -> Answer
+    requires { ⌜ Reads (now left) «in_left» × Reads (now right) «in_right» × (sameSignature (signature (modelOf (now left))) (signature (modelOf (now right))) ≡ true) × (canonical (modelOf (now right)) ≡ true) × Board (modelOf (now left)) (modelOf (now right)) cells (take boardRoom (now work)) × Rows start × (size (modelOf (now left)) ≤ length (now out)) × (workRoom ≤ length (now work)) ⌝ }
+    ensures answer { λ r. ⌜ r ≡ answerOf (ended (machine.run budget roundCost (modelOf (now (left .entry))) (modelOf (now (right .entry))) budget 0 (machine.refine (sidesIn (modelOf (now (left .entry))) (modelOf (now (right .entry))) start) []))) ⌝ }
+    ensures output { λ _. ⌜ now (out .exit) ≡ written (ended (machine.run budget roundCost (modelOf (now (left .entry))) (modelOf (now (right .entry))) budget 0 (machine.refine (sidesIn (modelOf (now (left .entry))) (modelOf (now (right .entry))) start) []))) (now (out .entry)) ⌝ }
+    ensures work { λ _. ⌜ (length (now (work .exit)) ≡ length (now (work .entry))) × (drop workRoom (now (work .exit)) ≡ drop workRoom (now (work .entry))) ⌝ }
+{
+    let mut colours = start;
+    let mut phase = Phase::Refine;
+    let mut depth: usize = 0;
+    let mut used: u64 = 0;
+    loop {
+        match phase {
+            Phase::Refine => {
+                if used == budget {
+                    return Answer::Exhausted(used); // a round is due
+                }
+                used += 1; // the round
+                let turn = refine(
+                    left,
+                    in_left,
+                    right,
+                    in_right,
+                    cells,
+                    &mut colours,
+                    work,
+                    depth,
+                );
+                phase = turn.phase;
+                depth = turn.depth;
+            }
+            Phase::Close => {
+                if used == budget {
+                    return Answer::Exhausted(used); // the closing check is due
+                }
+                used += 1; // the closing check
+                if close(left, in_left, right, in_right, colours, out) {
+                    return Answer::Found(used);
+                }
+                phase = Phase::Choose;
+            }
+            Phase::Choose => {
+                let stay = reopen(right, in_right, &work[BOARD..ROOM], depth);
+                if stay == 0 {
+                    return Answer::None(used);
+                }
+                if used == budget {
+                    return Answer::Exhausted(used); // a candidate is due
+                }
+                depth = stay;
+                let n = in_left.size;
+                if try_choice(
+                    right,
+                    in_right,
+                    n,
+                    &mut work[BOARD..ROOM],
+                    depth,
+                    &mut colours,
+                ) {
+                    used += 1; // a candidate of the colour
+                    phase = Phase::Refine;
+                } else {
+                    used += 1; // a candidate of another colour
+                }
+            }
+        }
+    }
+}
+
+// The search from fixed partners. The work is cleared, used, and cleared again.
+pub(crate) fn search(
+    left: &[u8],
+    in_left: Layout,
+    right: &[u8],
+    in_right: Layout,
+    to_right: &[u8],
+    to_left: &[u8],
+    budget: u64,
+    out: &mut [u8],
+    work: &mut [u16],
+) -> Answer
+    requires { ⌜ Reads (now left) «in_left» × Reads (now right) «in_right» × (canonical (modelOf (now left)) ≡ true) × (canonical (modelOf (now right)) ≡ true) × (sameSignature (signature (modelOf (now left))) (signature (modelOf (now right))) ≡ true) × (calls.alike (modelOf (now left)) (modelOf (now right)) ≡ true) × PartnersOf (modelOf (now left)) (modelOf (now right)) (now «to_right») (now «to_left») × (size (modelOf (now left)) ≤ length (now out)) × (workRoom ≤ length (now work)) ⌝ }
+    ensures answer { λ r. ⌜ r ≡ answerOf (ended (machine.run budget roundCost (modelOf (now (left .entry))) (modelOf (now (right .entry))) budget 0 (startFrom (modelOf (now (left .entry))) (modelOf (now (right .entry))) (now («to_right» .entry)) (now («to_left» .entry))))) ⌝ }
+    ensures output { λ _. ⌜ now (out .exit) ≡ written (ended (machine.run budget roundCost (modelOf (now (left .entry))) (modelOf (now (right .entry))) budget 0 (startFrom (modelOf (now (left .entry))) (modelOf (now (right .entry))) (now («to_right» .entry)) (now («to_left» .entry))))) (now (out .entry)) ⌝ }
+    ensures work { λ _. ⌜ now (work .exit) ≡ cleared workRoom (now (work .entry)) ⌝ }
+{
+    clear(work);
+    let cells = set_up(left, in_left, right, in_right, &mut work[..BOARD]);
+    let start = first_colours(left, in_left, right, in_right, to_right, to_left);
+    let answer = run(
+        left,
+        in_left,
+        right,
+        in_right,
+        cells,
+        start,
+        budget,
+        out,
+        work,
+    );
+    clear(work);
+    answer
+}
