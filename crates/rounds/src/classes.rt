@@ -6,6 +6,7 @@ ghost use Rattle.lists.specs.First.{lowest};
 ghost use Rattle.stored.specs.Limits.{maxElements};
 ghost use Rattle.stored.specs.Model.{size};
 ghost use Rattle.stored.specs.Reading.{Reads, modelOf};
+ghost use Rattle.rounds.specs.Round.{reps};
 ghost use Rattle.rounds.specs.Classes.{openOf, smallestFrom, smallestOpen, lowestOf};
 ghost use Rattle.rounds.specs.Parts.{repsIn, coloursIn, hasColour, smallestWith};
 use crate::colour::Colour;
@@ -33,6 +34,16 @@ fn rep_count(roots: &[u8]) -> usize
         x += 1;
     }
     n
+}
+
+// How many classes a model has.
+pub fn class_count(s: &[u8], layout: Layout) -> usize
+    requires { ⌜ Reads (now s) layout ⌝ }
+    ensures { λ r. ⌜ r ≡ length (reps (modelOf (now (s .entry)))) ⌝ }
+{
+    let start = layout.roots;
+    let end = start + layout.size;
+    rep_count(&s[start..end])
 }
 
 // The smallest open class of the colours from k on, given that of those after k. Of two as large the first is taken.
@@ -81,7 +92,7 @@ pub fn smallest_open(s: &[u8], layout: Layout, colours: &[u16]) -> Open
 }
 
 // The lowest representative of a colour; the number of elements where there is none.
-fn lowest_in(roots: &[u8], colours: &[u16], k: u16) -> usize
+pub fn lowest_in(roots: &[u8], colours: &[u16], k: u16) -> usize
     ensures { λ r. ⌜ r ≡ lowest (hasColour (now (roots .entry)) (now (colours .entry)) k) 0 (length (now (roots .entry))) ⌝ }
 {
     let mut x: usize = 0;

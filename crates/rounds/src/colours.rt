@@ -2,7 +2,7 @@
 ghost use mathlib.Core.Path.{_≡_};
 ghost use mathlib.Core.List.{map};
 ghost use Prim.Native.Nat.{_≤_};
-ghost use lib.ListN.{length, getD};
+ghost use lib.ListN.{length};
 ghost use Rattle.lists.specs.Every.{howMany};
 ghost use Rattle.lists.specs.Numbers.{upFrom};
 ghost use Rattle.lists.specs.Part.{over};
@@ -12,6 +12,7 @@ ghost use Rattle.stored.specs.Reading.{Reads, modelOf};
 ghost use Rattle.rounds.specs.Colours.{colourAt, paired, leftColours, rightColours};
 ghost use Rattle.rounds.specs.Parts.{leftColourIn, rightColourIn};
 use rows::maps::is_rep;
+use rows::rows::look;
 use stored::layout::Layout;
 use stored::model::Element;
 use stored::types::type_in;
@@ -23,13 +24,6 @@ pub fn colour_at(colours: &[u16], x: usize) -> u16
     if x < colours.len() { colours[x] } else { 65535 }
 }
 
-// The partner of an element; 255, which stands for none, past the last.
-pub fn partner_at(partners: &[u8], x: usize) -> u8
-    ensures { λ r. ⌜ r ≡ getD (now (partners .entry)) x 255 ⌝ }
-{
-    if x < partners.len() { partners[x] } else { 255 }
-}
-
 // How many elements below another have a partner.
 fn paired_below(partners: &[u8], end: usize) -> usize
     ensures { λ r. ⌜ r ≡ howMany (paired (now (partners .entry))) (upFrom 0 end) ⌝ }
@@ -37,7 +31,7 @@ fn paired_below(partners: &[u8], end: usize) -> usize
     let mut n: usize = 0;
     let mut x: usize = 0;
     while x < end {
-        if partner_at(partners, x) != 255 {
+        if look(partners, x) != 255 {
             n += 1;
         }
         x += 1;
@@ -53,7 +47,7 @@ fn left_colour(types: &[u8], roots: &[u8], partners: &[u8], x: usize) -> u16
     if !is_rep(roots, x) {
         return 65535;
     }
-    if partner_at(partners, x) == 255 {
+    if look(partners, x) == 255 {
         return type_in(types, Element(x as u16)).0;
     }
     let before = paired_below(partners, x);
@@ -98,7 +92,7 @@ fn right_colour(types: &[u8], roots: &[u8], left_colours: &[u16], partners: &[u8
     if !is_rep(roots, y) {
         return 65535;
     }
-    let x = partner_at(partners, y);
+    let x = look(partners, y);
     if x == 255 {
         return type_in(types, Element(y as u16)).0;
     }

@@ -125,6 +125,9 @@ fn recolour(
     );
 }
 
+// Two rows of 64 colours, one for each model.
+pub type Rows = [[u16; 64]; 2];
+
 // One round: the colours of both sides, in two rows of 64, recoloured (`refine_colors` of model_hom.rs).
 pub fn round(
     left: &[u8],
@@ -132,9 +135,9 @@ pub fn round(
     right: &[u8],
     in_right: Layout,
     cells: usize,
-    colours: [[u16; 64]; 2],
+    colours: Rows,
     board: &mut [u16],
-) -> [[u16; 64]; 2]
+) -> Rows
     requires { ⌜ Reads (now left) «in_left» × Reads (now right) «in_right» × (sameSignature (signature (modelOf (now left))) (signature (modelOf (now right))) ≡ true) × Board (modelOf (now left)) (modelOf (now right)) cells (now board) × (length (getD colours 0 []) ≡ 64) × (length (getD colours 1 []) ≡ 64) ⌝ }
     ensures recoloured { λ r. ⌜ record { left = take (size (modelOf (now (left .entry)))) (getD r 0 []); right = take (size (modelOf (now (right .entry)))) (getD r 1 []) } ≡ rounds.round (modelOf (now (left .entry))) (modelOf (now (right .entry))) (record { left = take (size (modelOf (now (left .entry)))) (getD colours 0 []); right = take (size (modelOf (now (right .entry)))) (getD colours 1 []) }) ⌝ }
     ensures shape { λ r. ⌜ (length r ≡ 2) × (length (getD r 0 []) ≡ 64) × (length (getD r 1 []) ≡ 64) ⌝ }

@@ -10,3 +10,4 @@ pub mod Identity
 pub mod Apply
 pub mod Compose
 pub mod Inverse
+pub mod Invertible

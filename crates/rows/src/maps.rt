@@ -13,14 +13,16 @@ ghost use Rattle.rows.specs.Rows.{firstUnkept};
 ghost use Rattle.rows.specs.Check.{blank};
 ghost use Rattle.rows.specs.Maps.{entryIn, isMap};
 use crate::rows::first_unkept;
-use crate::rows::look;
 use crate::rows::write_through;
 use stored::layout::Layout;
 use stored::model::Element;
 use stored::types::type_in;
 
+// A table with room for the image of every element.
+pub type Images = [u8; 64];
+
 // No images yet.
-pub fn no_images() -> [u8; 64]
+pub fn no_images() -> Images
     ensures { λ r. ⌜ r ≡ blank 64 ⌝ }
 {
     [255u8; 64]

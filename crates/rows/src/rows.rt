@@ -14,11 +14,10 @@ ghost use Rattle.rows.specs.Rows.{through, hasRow, firstUnkeptBy, rowsKe
 use stored::layout::Layout;
 
 // What a table says of an entry; 255 where it has none.
-pub(crate) fn look(table: &[u8], x: u8) -> u8
+pub fn look(table: &[u8], x: usize) -> u8
     ensures { λ r. ⌜ r ≡ getD (now (table .entry)) x 255 ⌝ }
 {
-    let i = x as usize;
-    if i < table.len() { table[i] } else { 255 }
+    if x < table.len() { table[x] } else { 255 }
 }
 
 // Writes what a table says of each entry of a row over the front of `out`.
@@ -28,7 +27,7 @@ pub(crate) fn write_through(table: &[u8], row: &[u8], out: &mut [u8])
 {
     let mut j: usize = 0;
     while j < row.len() {
-        let y = look(table, row[j]);
+        let y = look(table, row[j] as usize);
         out[j] = y;
         j += 1;
     }
@@ -45,8 +44,8 @@ pub(crate) fn agree(table: &[u8], row: &[u8], other_table: &[u8], other: &[u8]) 
     while j < row.len() {
         let entry = row[j];
         let other_entry = other[j];
-        let x = look(table, entry);
-        let y = look(other_table, other_entry);
+        let x = look(table, entry as usize);
+        let y = look(other_table, other_entry as usize);
         if x != y {
             return false;
         }

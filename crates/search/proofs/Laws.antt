@@ -8,6 +8,7 @@ pub mod Closing
 pub mod Choices
 pub mod Refine
 pub mod Outcome
+pub mod Answer
 pub mod Find
 pub mod Tables
 pub mod Machine

@@ -12,6 +12,7 @@ use Rattle.rows.specs.Rows.{through, hasRow}
 use Rattle.rounds.specs.Colours.{colourAt}
 use Rattle.rounds.specs.Round.{reps, Sides, Outcome, dead, stable, again, colourCount, roundOutcome}
 use Rattle.rounds.specs.Classes.{Open, allSingle, openAt, smallestOpen, lowestOf}
+use Rattle.rounds.specs.Parts.{hasColour}
 
 -- an open choice: the colours, the left element, its colour, the new colour, and the right representatives not yet looked at
 pub record Choice : Type 0 where
@@ -38,9 +39,6 @@ unfoldable pub imageOf : Model → Model → Sides → ℕ → ℕ
 imageOf a b c x = elim (isRep a x) [ true ↦ lowest (λ (y : ℕ). isRep b y && eqb (colourAt (c .right) y) (colourAt (c .left) x)) 0 (size b) | false ↦ 255 ]
 
 -- the same by the representatives and the colours of both sides
-unfoldable pub hasColour : List ℕ → List ℕ → ℕ → ℕ → Bool
-hasColour roots colours colour y = isRepIn roots y && eqb (colourAt colours y) colour
-
 unfoldable pub imageIn : List ℕ → List ℕ → List ℕ → List ℕ → ℕ → ℕ
 imageIn roots roots' left right x = elim (isRepIn roots x) [ true ↦ lowest (hasColour roots' right (colourAt left x)) 0 (length roots') | false ↦ 255 ]
 

@@ -2,32 +2,15 @@
 ghost use mathlib.Core.Path.{_≡_};
 ghost use mathlib.Core.Bool.{true};
 ghost use Prim.Native.Nat.{_≤_};
-ghost use lib.ListN.{length};
-ghost use Rattle.lists.specs.Every.{all, keep};
+ghost use Rattle.lists.specs.Every.{all};
 ghost use Rattle.lists.specs.Numbers.{upFrom};
 ghost use Rattle.stored.specs.Limits.{maxRelations};
-ghost use Rattle.stored.specs.Model.{isRepIn};
 ghost use Rattle.stored.specs.Signature.{signature, sameSignature};
 ghost use Rattle.stored.specs.Reading.{Reads, modelOf};
 ghost use Rattle.search.specs.Find.{sameCountIn};
 ghost use Rattle.search.specs.Find as find;
-use rows::maps::is_rep;
+use rounds::classes::class_count;
 use stored::layout::Layout;
-
-// How many elements are their own representative.
-fn class_count(roots: &[u8]) -> usize
-    ensures { λ r. ⌜ r ≡ length (keep (isRepIn (now (roots .entry))) (upFrom 0 (length (now (roots .entry))))) ⌝ }
-{
-    let mut n: usize = 0;
-    let mut x: usize = 0;
-    while x < roots.len() {
-        if is_rep(roots, x) {
-            n += 1;
-        }
-        x += 1;
-    }
-    n
-}
 
 // Whether each relation of the left has as many rows on the right.
 fn same_row_counts(in_left: Layout, in_right: Layout) -> bool
@@ -51,12 +34,8 @@ pub(crate) fn alike(left: &[u8], in_left: Layout, right: &[u8], in_right: Layout
     requires { ⌜ Reads (now left) «in_left» × Reads (now right) «in_right» × (sameSignature (signature (modelOf (now left))) (signature (modelOf (now right))) ≡ true) ⌝ }
     ensures { λ r. ⌜ r ≡ find.alike (modelOf (now (left .entry))) (modelOf (now (right .entry))) ⌝ }
 {
-    let start = in_left.roots;
-    let end = start + in_left.size;
-    let other_start = in_right.roots;
-    let other_end = other_start + in_right.size;
-    let classes = class_count(&left[start..end]);
-    let other_classes = class_count(&right[other_start..other_end]);
+    let classes = class_count(left, in_left);
+    let other_classes = class_count(right, in_right);
     if classes != other_classes {
         return false;
     }

@@ -10,6 +10,7 @@ ghost use Rattle.stored.specs.Limits.{maxElements};
 ghost use Rattle.stored.specs.Model.{size, isRepIn};
 ghost use Rattle.stored.specs.Reading.{Reads, modelOf};
 ghost use Rattle.search.specs.Choices.{choiceLength, candidateFrom, candidateIn, Opened, Reopened, Looked};
+use rounds::round::Rows;
 use rows::maps::is_rep;
 use stored::layout::Layout;
 
@@ -115,7 +116,7 @@ pub(crate) fn try_choice(
     n: usize,
     choices: &mut [u16],
     depth: usize,
-    colours: &mut [[u16; 64]; 2],
+    colours: &mut Rows,
 ) -> bool
     requires { ⌜ Reads (now right) «in_right» × (1 ≤ depth) × (depth * choiceLength ≤ length (now choices)) × (candidateIn (modelOf (now right)) (now choices) (depth - 1) < size (modelOf (now right))) × (getD (now choices) ((depth - 1) * choiceLength + 128) 0 < n) × (n ≤ maxElements) ⌝ }
     ensures { λ r. ⌜ Looked (modelOf (now (right .entry))) n (now (choices .entry)) depth (now (colours .entry)) (now (choices .exit)) (now (colours .exit)) r ⌝ }

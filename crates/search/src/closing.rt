@@ -4,7 +4,6 @@ ghost use mathlib.Core.Bool.{true};
 ghost use mathlib.Core.List.{map as each};
 ghost use Prim.Native.Nat.{_≤_};
 ghost use lib.ListN.{length};
-ghost use Rattle.lists.specs.First.{lowest};
 ghost use Rattle.lists.specs.Numbers.{upFrom};
 ghost use Rattle.lists.specs.Part.{over};
 ghost use Rattle.stored.specs.Limits.{maxElements};
@@ -12,44 +11,13 @@ ghost use Rattle.stored.specs.Model.{size};
 ghost use Rattle.stored.specs.Canonical.{canonical};
 ghost use Rattle.stored.specs.Signature.{signature, sameSignature};
 ghost use Rattle.stored.specs.Reading.{Reads, modelOf};
-ghost use Rattle.rounds.specs.Colours.{colourAt};
-ghost use Rattle.search.specs.Machine.{hasColour, imageIn, mapOf};
+ghost use Rattle.search.specs.Machine.{imageIn, mapOf};
 ghost use Rattle.search.specs.Machine as machine;
+use rounds::classes::lowest_in;
+use rounds::colours::colour_at;
 use rows::maps::is_rep;
 use rows::rows::rows_kept;
 use stored::layout::Layout;
-
-// The colour of an element; 65535 where it has none.
-fn colour_at(colours: &[u16], x: usize) -> u16
-    ensures { λ r. ⌜ r ≡ colourAt (now (colours .entry)) x ⌝ }
-{
-    if x < colours.len() { colours[x] } else { 65535 }
-}
-
-// Whether an element is a representative of a colour.
-fn has_colour(roots: &[u8], colours: &[u16], colour: u16, y: usize) -> bool
-    ensures { λ r. ⌜ r ≡ hasColour (now (roots .entry)) (now (colours .entry)) colour y ⌝ }
-{
-    if !is_rep(roots, y) {
-        return false;
-    }
-    let its_colour = colour_at(colours, y);
-    its_colour == colour
-}
-
-// The lowest representative of a colour; the number of elements where there is none.
-fn first_coloured(roots: &[u8], colours: &[u16], colour: u16) -> usize
-    ensures { λ r. ⌜ r ≡ lowest (hasColour (now (roots .entry)) (now (colours .entry)) colour) 0 (length (now (roots .entry))) ⌝ }
-{
-    let mut y: usize = 0;
-    while y < roots.len() {
-        if has_colour(roots, colours, colour, y) {
-            return y;
-        }
-        y += 1;
-    }
-    y
-}
 
 // The image of an element: of a representative the one of its colour, of an alias none.
 fn image_of(
@@ -66,7 +34,7 @@ fn image_of(
         return 255;
     }
     let colour = colour_at(left_colours, x);
-    let y = first_coloured(other_roots, right_colours, colour);
+    let y = lowest_in(other_roots, right_colours, colour);
     y as u8
 }
 

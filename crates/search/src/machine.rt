@@ -35,6 +35,7 @@ use rounds::colours::left_colours;
 use rounds::colours::right_colours;
 use rounds::counts::colour_count;
 use rounds::counts::equal_counts;
+use rounds::round::Rows;
 use rounds::round::round;
 use rounds::round::set_up;
 use rows::check::put;
@@ -93,7 +94,7 @@ fn refine(
     right: &[u8],
     in_right: Layout,
     cells: usize,
-    colours: &mut [[u16; 64]; 2],
+    colours: &mut Rows,
     work: &mut [u16],
     depth: usize,
 ) -> Turn
@@ -148,7 +149,7 @@ fn close(
     in_left: Layout,
     right: &[u8],
     in_right: Layout,
-    colours: [[u16; 64]; 2],
+    colours: Rows,
     out: &mut [u8],
 ) -> bool
     requires { ⌜ Reads (now left) «in_left» × Reads (now right) «in_right» × (sameSignature (signature (modelOf (now left))) (signature (modelOf (now right))) ≡ true) × (canonical (modelOf (now right)) ≡ true) × (size (modelOf (now left)) ≤ length (now out)) × Rows colours ⌝ }
@@ -191,7 +192,7 @@ fn first_colours(
     in_right: Layout,
     to_right: &[u8],
     to_left: &[u8],
-) -> [[u16; 64]; 2]
+) -> Rows
     requires { ⌜ Reads (now left) «in_left» × Reads (now right) «in_right» ⌝ }
     ensures colours { λ r. ⌜ sidesIn (modelOf (now (left .entry))) (modelOf (now (right .entry))) r ≡ record { left = leftColours (modelOf (now (left .entry))) (now («to_right» .entry)); right = rightColours (modelOf (now (right .entry))) (leftColours (modelOf (now (left .entry))) (now («to_right» .entry))) (now («to_left» .entry)) } ⌝ }
     ensures shape { λ r. ⌜ Rows r ⌝ }
@@ -212,7 +213,7 @@ fn run(
     right: &[u8],
     in_right: Layout,
     cells: usize,
-    start: [[u16; 64]; 2],
+    start: Rows,
     budget: u64,
     out: &mut [u8],
     work: &mut [u16],

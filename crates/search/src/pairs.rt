@@ -1,7 +1,7 @@
 // Fixed pairs: whether they hold, the partner of each element, and the pairs that a base gives.
 ghost use mathlib.Core.Path.{_≡_};
 ghost use Prim.Native.Nat.{_≤_, _<_, _*_};
-ghost use lib.ListN.{length, getD};
+ghost use lib.ListN.{length};
 ghost use Rattle.lists.specs.Every.{keep};
 ghost use Rattle.lists.specs.Numbers.{upFrom};
 ghost use Rattle.lists.specs.Part.{over};
@@ -15,6 +15,7 @@ use rows::maps::is_rep;
 use rows::pairs::Pair;
 use rows::pairs::conflict;
 use rows::pairs::pair_at;
+use rows::rows::look;
 use stored::layout::Layout;
 
 // The first pair at fault, or none is.
@@ -84,13 +85,6 @@ pub(crate) fn give_partners(
     true
 }
 
-// The entry of an element in a map; 255 where the map has none.
-fn entry_at(map: &[u8], x: usize) -> u8
-    ensures { λ r. ⌜ r ≡ getD (now (map .entry)) x 255 ⌝ }
-{
-    if x < map.len() { map[x] } else { 255 }
-}
-
 // Writes the pairs that a base gives over the front of `out`, each of its representatives' two images; answers how many bytes they are.
 pub(crate) fn write_pairs_under(
     roots: &[u8],
@@ -106,8 +100,8 @@ pub(crate) fn write_pairs_under(
     let mut x: usize = 0;
     while x < roots.len() {
         if is_rep(roots, x) {
-            let y = entry_at(to_left, x);
-            let z = entry_at(to_right, x);
+            let y = look(to_left, x);
+            let z = look(to_right, x);
             out[n] = y;
             out[n + 1] = z;
             n += 2;

@@ -1,12 +1,12 @@
 // The lines of the input, each a call.
 use crate::answer;
 use crate::apply;
-use crate::check;
 use crate::compose;
 use crate::find;
 use crate::identity;
-use crate::inverse;
 use crate::pairs;
+use crate::two;
+use crate::two::Call;
 use crate::under;
 use crate::words;
 
@@ -16,13 +16,13 @@ fn replay(line: &[u8]) {
     if words::same(name, b"identity") {
         identity::replay(line);
     } else if words::same(name, b"check") {
-        check::replay(line);
+        two::replay(Call::Check, line);
     } else if words::same(name, b"apply") {
         apply::replay(line);
     } else if words::same(name, b"compose") {
         compose::replay(line);
     } else if words::same(name, b"inverse") {
-        inverse::replay(line);
+        two::replay(Call::Inverse, line);
     } else if words::same(name, b"find") {
         find::replay(line);
     } else if words::same(name, b"pairs") {

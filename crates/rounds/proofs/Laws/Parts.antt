@@ -9,6 +9,7 @@ use native.Mathlib.Omega.{arith}
 use native.Mathlib.Numerals.{add-one}
 use native.Mathlib.Decide.{ℕ-discrete}
 use borrow.Author.Tests.{eq-eqb, ne-eqb}
+use lib.Dec.{eqb}
 use lib.ListN.{length}
 use Rattle.lists.specs.Every.{all, keep}
 use Rattle.lists.specs.First.{lowest}
@@ -25,7 +26,7 @@ use Rattle.rows.proofs.Laws.Given.{rootsIn, roots-between}
 use Rattle.rounds.specs.Colours.{colourAt}
 use Rattle.rounds.specs.Round.{reps, coloursOf}
 use Rattle.rounds.specs.Classes.{lowestOf}
-use Rattle.rounds.specs.Parts.{repsBelow, coloursBelow, coloursIn, hasColour}
+use Rattle.rounds.specs.Parts.{repsBelow, coloursBelow, repsIn, coloursIn, hasColour}
 
 -- the numbers below one more
 pub up-more : (x : ℕ) → upFrom 0 (x + 1) ≡ upFrom 0 x ++ x ∷ []
@@ -98,6 +99,10 @@ module _ {p : ℕ → Bool} {roots colours : List ℕ} {x : ℕ} (i : PassedBelo
       sym (mem-all p (coloursBelow roots colours n) (λ k m. let o = colour-of roots colours n k m in rw (o .3) (i .passed (o .0) (omega (arith, o .1)) (o .2))))
 
 -- whether an element is a representative of a colour
+pub has-test : (roots colours : List ℕ) (k : ℕ) → hasColour roots colours k ≡ (λ (x : ℕ). isRepIn roots x && eqb (colourAt colours x) k)
+unfolding hasColour
+has-test roots colours k = refl
+
 module _ (roots colours : List ℕ) (k x : ℕ) where
   pub has-colour : isRepIn roots x ≡ true → colourAt colours x ≡ k → hasColour roots colours k x ≡ true
   unfolding hasColour
@@ -119,6 +124,10 @@ module _ (roots colours : List ℕ) (k x : ℕ) where
 module _ (s : List ℕ) (l : Layout) (reads : Reads s l) where
   pub roots-whole : length (modelOf s .roots) ≡ size (modelOf s)
   roots-whole = reads-formed s l reads .roots-length
+
+  pub reps-handed : repsIn (rootsIn s l) ≡ reps (modelOf s)
+  unfolding repsBelow reps
+  reps-handed = rw (roots-between s l reads, roots-whole)
 
   pub colours-handed : (colours : List ℕ) → coloursIn (rootsIn s l) colours ≡ coloursOf (modelOf s) colours
   unfolding coloursBelow repsBelow coloursOf reps

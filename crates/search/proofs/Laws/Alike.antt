@@ -1,4 +1,4 @@
--- The laws of models that are alike: row counts by the layouts, the classes by the roots, case by case. Assumes nothing.
+-- The laws of models that are alike: row counts by the layouts, case by case. Assumes nothing.
 use Prim.Native.Nat.{ℕ, _<_}
 use mathlib.Core.Path.{_≡_, sym, _∙_, ap, ap₂}
 use mathlib.Core.Bool.{Bool, true, false}
@@ -7,19 +7,17 @@ use native.Mathlib.Omega.{arith}
 use borrow.Author.Tests.{eq-eqb, ne-eqb}
 use lib.Dec.{eqb}
 use lib.ListN.{length, getD}
-use Rattle.lists.specs.Every.{all, keep}
+use Rattle.lists.specs.Every.{all}
 use Rattle.lists.specs.Numbers.{upFrom}
 use Rattle.lists.proofs.Laws.Every.{mem-all, all-mem}
 use Rattle.lists.proofs.Laws.Numbers.{mem-upFrom}
 use Rattle.lists.proofs.Laws.Tests.{same-test}
 use Rattle.stored.specs.declared.layout.Layout.{Layout}
-use Rattle.stored.specs.Model.{Model, isRepIn}
-use Rattle.stored.specs.Reading.{Reads, modelOf}
+use Rattle.stored.specs.Model.{Model}
+use Rattle.stored.specs.Reading.{modelOf}
 use Rattle.stored.proofs.Laws.Reading.{relations-is, relation-there}
-use Rattle.rows.proofs.Laws.Given.{rootsIn, roots-between, roots-count}
 use Rattle.rows.proofs.Laws.Rows.{Alike, as-many-relations}
 use Rattle.rounds.specs.Round.{reps}
-use Rattle.rounds.proofs.Theorems.Keys.{reps-kept}
 use Rattle.search.specs.Find.{sameRowCount, sameCountIn, alike}
 
 -- one relation
@@ -39,10 +37,6 @@ all-agree p q xs h =
     (λ t. mem-all q xs (λ x m. sym (h x m) ∙ all-mem p xs t x m))
     (λ t. mem-all p xs (λ x m. h x m ∙ all-mem q xs t x m))
 
--- the classes of a file that was read, counted by the roots as they are handed on
-classes : (s : List ℕ) (l : Layout) → Reads s l → length (keep (isRepIn (rootsIn s l)) (upFrom 0 (length (rootsIn s l)))) ≡ length (reps (modelOf s))
-classes s l reads = rw (roots-count s l reads, roots-between s l reads, reps-kept (modelOf s))
-
 -- two files that were read and hold models of one signature
 module _ (s t : List ℕ) (l m : Layout) (given : Alike s t l m) where
   abbrev a : Model
@@ -61,17 +55,11 @@ module _ (s t : List ℕ) (l m : Layout) (given : Alike s t l m) where
       ∙ ap (λ (n : ℕ). all (sameRowCount a b) (upFrom 0 n)) (relations-is s l (given .0))
 
   -- by the numbers of classes that are counted on both sides
-  module _ (n o : ℕ) (e : n ≡ length (keep (isRepIn (rootsIn s l)) (upFrom 0 (length (rootsIn s l))))) (f : o ≡ length (keep (isRepIn (rootsIn t m)) (upFrom 0 (length (rootsIn t m))))) where
-    left-classes : n ≡ length (reps a)
-    left-classes = e ∙ classes s l (given .0)
-
-    right-classes : o ≡ length (reps b)
-    right-classes = f ∙ classes t m (given .1)
-
+  module _ (n o : ℕ) (e : n ≡ length (reps a)) (f : o ≡ length (reps b)) where
     pub unlike-classes : (n ≡ o → ⊥) → false ≡ alike a b
     unfolding alike
-    unlike-classes d = rw (ne-eqb (length (reps a)) (length (reps b)) (λ q. d (left-classes ∙ q ∙ sym right-classes)))
+    unlike-classes d = rw (ne-eqb (length (reps a)) (length (reps b)) (λ q. d (e ∙ q ∙ sym f)))
 
     pub alike-classes : n ≡ o → (r : Bool) → r ≡ all (sameCountIn l m) (upFrom 0 (l .relations)) → r ≡ alike a b
     unfolding alike
-    alike-classes q r g = rw (eq-eqb (length (reps a)) (length (reps b)) (sym left-classes ∙ q ∙ right-classes)) (g ∙ all-counted)
+    alike-classes q r g = rw (eq-eqb (length (reps a)) (length (reps b)) (sym e ∙ q ∙ f)) (g ∙ all-counted)

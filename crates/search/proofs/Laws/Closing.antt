@@ -1,4 +1,4 @@
--- The laws of the closing check: representatives of a colour, the image of one element, the map by the roots as they are handed on, and the rows of
+-- The laws of the closing check: the image of one element, the map by the roots as they are handed on, and the rows of
 -- one relation, which in a canonical model are the same through the roots. Assumes nothing.
 use Prim.Native.Nat.{ℕ, _<_}
 use mathlib.Core.Path.{_≡_, refl, sym, _∙_, ap, ap₂}
@@ -26,17 +26,9 @@ use Rattle.rows.proofs.Laws.Rows.{kept-each}
 use Rattle.rows.proofs.Theorems.Through.{through-self}
 use Rattle.rounds.specs.Colours.{colourAt}
 use Rattle.rounds.specs.Round.{Sides}
-use Rattle.search.specs.Machine.{imageOf, hasColour, imageIn, mapOf, closesAt}
-
--- representatives of a colour
-module _ (roots colours : List ℕ) (colour y : ℕ) where
-  pub colour-alias : isRepIn roots y ≡ false → hasColour roots colours colour y ≡ false
-  unfolding hasColour
-  colour-alias e = rw e
-
-  pub colour-rep : isRepIn roots y ≡ true → hasColour roots colours colour y ≡ eqb (colourAt colours y) colour
-  unfolding hasColour
-  colour-rep e = rw e
+use Rattle.rounds.specs.Parts.{hasColour}
+use Rattle.rounds.proofs.Laws.Parts.{has-test}
+use Rattle.search.specs.Machine.{imageOf, imageIn, mapOf, closesAt}
 
 -- the image of one element
 module _ (roots roots' left right : List ℕ) (x : ℕ) where
@@ -54,13 +46,14 @@ module _ (s t : List ℕ) (l m : Layout) (p : Reads s l) (q : Reads t m) (left r
   sides = record { left = left; right = right }
 
   image-handed : (x : ℕ) → imageIn (modelOf s .roots) (modelOf t .roots) left right x ≡ imageOf (modelOf s) (modelOf t) sides x
-  unfolding imageOf hasColour
+  unfolding imageOf
   image-handed x = go (split (isRepIn (modelOf s .roots) x))
     where
       go : (isRepIn (modelOf s .roots) x ≡ true) ⊎ (isRepIn (modelOf s .roots) x ≡ false) → imageIn (modelOf s .roots) (modelOf t .roots) left right x ≡ imageOf (modelOf s) (modelOf t) sides x
       go (inl e) =
           image-rep (modelOf s .roots) (modelOf t .roots) left right x e
           ∙ ap (lowest (hasColour (modelOf t .roots) right (colourAt left x)) 0) (reads-formed t m q .roots-length)
+          ∙ ap (λ (p : ℕ → Bool). lowest p 0 (size (modelOf t))) (has-test (modelOf t .roots) right (colourAt left x))
           ∙ rw (e, imageOf)
       go (inr e) = image-alias (modelOf s .roots) (modelOf t .roots) left right x e ∙ rw (e, imageOf)
 

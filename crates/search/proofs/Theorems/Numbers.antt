@@ -34,6 +34,10 @@ pub nodes-more : (r : ℕ) → 1 + suc (suc r) * nodes (suc r) ≡ nodes (suc (s
 unfolding nodes
 nodes-more r = refl
 
+pub search-bound : (r : ℕ) → 2 * max r 1 * nodes r ≡ searchBound r
+unfolding searchBound
+search-bound r = refl
+
 pub lacking-none : (r : ℕ) → unitsLacking r 0 ≡ 2
 unfolding unitsLacking
 lacking-none r = refl

@@ -44,8 +44,8 @@ is-rep-requires c κs = search needs
 returns : tie.Need-returns
 returns c = an-alias _ _ _ _ _ (c .before .is-rep .ensures) (c .if1 .taken)
 
-partner-at-requires : tie.Need-partner-at-requires
-partner-at-requires c κs = search needs
+look-requires : tie.Need-look-requires
+look-requires c κs = search needs
 
 cast-t11 : tie.Need-cast-t11
 cast-t11 c = search needs
@@ -57,7 +57,7 @@ returns-2 : tie.Need-returns-2
 returns-2 c =
     let p = c .before .before in
     let r = p .before .before in
-    typed _ _ _ _ _ (r .is-rep .ensures) (p .before .if1 .left) _ (p .partner-at .ensures) (c .before .if2 .taken) _ (c .type-in .ensures)
+    typed _ _ _ _ _ (r .is-rep .ensures) (p .before .if1 .left) _ (p .look .ensures) (c .before .if2 .taken) _ (c .type-in .ensures)
 
 paired-below-requires : tie.Need-paired-below-requires
 paired-below-requires c κs = search needs
@@ -76,7 +76,7 @@ returns-3 : tie.Need-returns-3
 returns-3 c =
     let p = c .before .before in
     let r = p .before .before in
-    partnered _ _ _ _ _ (r .is-rep .ensures) (p .before .if1 .left) _ (p .partner-at .ensures) (c .before .if2 .left) _ (c .paired-below .ensures)
+    partnered _ _ _ _ _ (r .is-rep .ensures) (p .before .if1 .left) _ (p .look .ensures) (c .before .if2 .left) _ (c .paired-below .ensures)
 
 pub left-colour-spec : {M : Type 1} → statement M
 left-colour-spec =
@@ -84,7 +84,7 @@ left-colour-spec =
     (tie.spec
     is-rep-requires
     returns
-    partner-at-requires
+    look-requires
     cast-t11
     type-in-requires
     returns-2

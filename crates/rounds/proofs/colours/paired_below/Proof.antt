@@ -59,8 +59,8 @@ abbrev μ-loop : tie.MeasureT-loop
 loop-holds : tie.Need-loop-holds Inv-loop μ-loop
 loop-holds c = start _ _
 
-partner-at-requires : tie.Need-partner-at-requires Inv-loop μ-loop
-partner-at-requires c κs = search needs
+look-requires : tie.Need-look-requires Inv-loop μ-loop
+look-requires c κs = search needs
 
 add-n : tie.Need-add-n Inv-loop μ-loop
 add-n c = search needs
@@ -75,8 +75,8 @@ loop-again : tie.Need-loop-again Inv-loop μ-loop
 loop-again c =
     let r = c .before in
     ⊎-elim
-    (λ w. some _ _ _ _ (r .before .before .loop .inv) (r .before .loop-test .taken) _ (r .partner-at .ensures) (w .0 .taken) _ (w .1))
-    (λ w. none _ _ _ _ (r .before .before .loop .inv) (r .before .loop-test .taken) _ (r .partner-at .ensures) (w .0 .left) _ (w .1))
+    (λ w. some _ _ _ _ (r .before .before .loop .inv) (r .before .loop-test .taken) _ (r .look .ensures) (w .0 .taken) _ (w .1))
+    (λ w. none _ _ _ _ (r .before .before .loop .inv) (r .before .loop-test .taken) _ (r .look .ensures) (w .0 .left) _ (w .1))
     (c .if1 .came)
 
 returns : tie.Need-returns Inv-loop μ-loop
@@ -89,7 +89,7 @@ paired-below-spec =
     Inv-loop
     μ-loop
     loop-holds
-    partner-at-requires
+    look-requires
     add-n
     add-x
     loop-less

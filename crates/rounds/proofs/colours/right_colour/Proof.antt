@@ -36,8 +36,8 @@ is-rep-requires c κs = search needs
 returns : tie.Need-returns
 returns c = an-alias _ _ _ _ _ _ (c .before .is-rep .ensures) (c .if1 .taken)
 
-partner-at-requires : tie.Need-partner-at-requires
-partner-at-requires c κs = search needs
+look-requires : tie.Need-look-requires
+look-requires c κs = search needs
 
 cast-t10 : tie.Need-cast-t10
 cast-t10 c = search needs
@@ -49,7 +49,7 @@ returns-2 : tie.Need-returns-2
 returns-2 c =
     let p = c .before .before in
     let r = p .before .before in
-    typed _ _ _ _ _ _ (r .is-rep .ensures) (p .before .if1 .left) _ (p .partner-at .ensures) (c .before .if2 .taken) _ (c .type-in .ensures)
+    typed _ _ _ _ _ _ (r .is-rep .ensures) (p .before .if1 .left) _ (p .look .ensures) (c .before .if2 .taken) _ (c .type-in .ensures)
 
 cast-colour-at : tie.Need-cast-colour-at
 cast-colour-at c = search needs
@@ -61,7 +61,7 @@ returns-3 : tie.Need-returns-3
 returns-3 c =
     let p = c .before .before in
     let r = p .before .before in
-    partnered _ _ _ _ _ _ (r .is-rep .ensures) (p .before .if1 .left) _ (p .partner-at .ensures) (c .before .if2 .left) _ (c .colour-at .ensures)
+    partnered _ _ _ _ _ _ (r .is-rep .ensures) (p .before .if1 .left) _ (p .look .ensures) (c .before .if2 .left) _ (c .colour-at .ensures)
 
 pub right-colour-spec : {M : Type 1} → statement M
 right-colour-spec =
@@ -69,7 +69,7 @@ right-colour-spec =
     (tie.spec
     is-rep-requires
     returns
-    partner-at-requires
+    look-requires
     cast-t10
     type-in-requires
     returns-2

@@ -72,8 +72,14 @@ shared-slice-read-entry c = search needs
 shared-slice-read-other-entry : tie.Need-shared-slice-read-other-entry Inv-loop μ-loop
 shared-slice-read-other-entry c = let k = c .before .before in other-inside _ _ _ _ _ (k .before .loop .inv) (k .loop-test .taken)
 
+cast-look : tie.Need-cast-look Inv-loop μ-loop
+cast-look c = omega (arith, c .before .shared-slice-known5 .given (c .before .before .before .loop .j))
+
 look-requires : tie.Need-look-requires Inv-loop μ-loop
 look-requires c κs = tt
+
+cast-look-2 : tie.Need-cast-look-2 Inv-loop μ-loop
+cast-look-2 c = omega (arith, c .before .shared-slice-known6 .given (c .before .before .before .before .loop .j))
 
 look-requires-2 : tie.Need-look-requires-2 Inv-loop μ-loop
 look-requires-2 c κs = tt
@@ -107,7 +113,9 @@ agree-spec =
     loop-holds
     shared-slice-read-entry
     shared-slice-read-other-entry
+    cast-look
     look-requires
+    cast-look-2
     look-requires-2
     returns-2
     add-j

@@ -43,6 +43,9 @@ loop-holds c = start _ _ _ (c .before .before .before .pre)
 shared-slice-read-look : tie.Need-shared-slice-read-look Inv-loop μ-loop
 shared-slice-read-look c = search needs
 
+cast-look : tie.Need-cast-look Inv-loop μ-loop
+cast-look c = omega (arith, c .shared-slice-known3 .given (c .before .before .loop .j))
+
 look-requires : tie.Need-look-requires Inv-loop μ-loop
 look-requires c κs = tt
 
@@ -72,6 +75,7 @@ write-through-spec =
     μ-loop
     loop-holds
     shared-slice-read-look
+    cast-look
     look-requires
     slice-write-out
     add-j

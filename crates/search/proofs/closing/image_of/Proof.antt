@@ -11,7 +11,8 @@ use Rattle.lists.specs.First.{lowest}
 use Rattle.lists.proofs.Laws.First.{lowest-within}
 use Rattle.stored.specs.Model.{isRepIn}
 use Rattle.rounds.specs.Colours.{colourAt}
-use Rattle.search.specs.Machine.{hasColour, imageIn}
+use Rattle.rounds.specs.Parts.{hasColour}
+use Rattle.search.specs.Machine.{imageIn}
 use Rattle.search.proofs.Laws.Closing.{image-alias, image-rep}
 use Rattle.search.proofs.closing.image_of.Statement.{statement}
 use Rattle.search.proofs.closing.image_of.Tie as tie
@@ -35,14 +36,14 @@ returns c = sym (image-alias _ _ _ _ _ (sym (c .before .is-rep .ensures) ∙ not
 colour-at-requires : tie.Need-colour-at-requires
 colour-at-requires c κs = search needs
 
-first-coloured-requires : tie.Need-first-coloured-requires
-first-coloured-requires c κs = search needs
+lowest-in-requires : tie.Need-lowest-in-requires
+lowest-in-requires c κs = search needs
 
 cast-result : tie.Need-cast-result
-cast-result c = omega (arith, within _ _ _ _ (c .first-coloured .ensures), c .before .before .before .before .before .before .before .before .pre)
+cast-result c = omega (arith, within _ _ _ _ (c .lowest-in .ensures), c .before .before .before .before .before .before .before .before .pre)
 
 returns-2 : tie.Need-returns-2
-returns-2 c = image _ _ _ _ (c .first-coloured .ensures) _ _ _ _ (c .before .colour-at .ensures) (c .before .before .before .is-rep .ensures) (not-false _ (c .before .before .if1 .left))
+returns-2 c = image _ _ _ _ (c .lowest-in .ensures) _ _ _ _ (c .before .colour-at .ensures) (c .before .before .before .is-rep .ensures) (not-false _ (c .before .before .if1 .left))
 
 pub image-of-spec : {M : Type 1} → statement M
 image-of-spec =
@@ -51,6 +52,6 @@ image-of-spec =
     is-rep-requires
     returns
     colour-at-requires
-    first-coloured-requires
+    lowest-in-requires
     cast-result
     returns-2)

@@ -99,11 +99,11 @@ loop-holds c = start _ _ _ _ (c .before .before .before .before .pre)
 is-rep-requires : tie.Need-is-rep-requires Inv-loop μ-loop
 is-rep-requires c κs = search needs
 
-entry-at-requires : tie.Need-entry-at-requires Inv-loop μ-loop
-entry-at-requires c κs = search needs
+look-requires : tie.Need-look-requires Inv-loop μ-loop
+look-requires c κs = search needs
 
-entry-at-requires-2 : tie.Need-entry-at-requires-2 Inv-loop μ-loop
-entry-at-requires-2 c κs = search needs
+look-requires-2 : tie.Need-look-requires-2 Inv-loop μ-loop
+look-requires-2 c κs = search needs
 
 slice-write-out : tie.Need-slice-write-out Inv-loop μ-loop
 slice-write-out c = omega (arith, room _ _ _ _ _ _ _ (c .before .before .before .before .before .loop .inv) (c .before .before .before .before .loop-test .taken))
@@ -145,8 +145,8 @@ write-pairs-under-spec =
     μ-loop
     loop-holds
     is-rep-requires
-    entry-at-requires
-    entry-at-requires-2
+    look-requires
+    look-requires-2
     slice-write-out
     add-out
     slice-write-out-2
