@@ -9,7 +9,7 @@ library=$top/target/staticlib/libbizakoma.a
 warnings='-Wall -Wextra -Wpedantic -Wshadow -Wconversion -Werror'
 
 # whether the library is there and no source is newer
-fresh() { [ -f "$library" ] && [ -z "$(find "$top/crates.txt" "$top/crates" -type f -newer "$library")" ]; }
+fresh() { [ -f "$library" ] && [ -z "$(find "$top/crates.txt" "$top/crates" -newer "$library" \( -name '*.rt' -o -name '*.antt' -o -name crates.txt \))" ]; }
 fresh || (cd "$top" && rt staticlib bizakoma >"$made/log" 2>&1) || { cat "$made/log"; exit 1; }
 
 as_c() { ${CC:-cc} -std=c99 $warnings -Wstrict-prototypes -Wmissing-prototypes -I"$top/include" "$@"; }
