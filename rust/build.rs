@@ -46,7 +46,9 @@ fn make(top: &Path) -> PathBuf {
         match status {
             Ok(status) if status.success() => {}
             Ok(status) => panic!("`rt staticlib bizakoma` failed: {status}"),
-            Err(error) => panic!("`rt` is not to be run ({error}): install the Rattle kit, or set BIZAKOMA_LIB_DIR to a folder with libbizakoma.a"),
+            Err(error) => {
+                panic!("`rt` is not to be run ({error}): install the Rattle kit, or set BIZAKOMA_LIB_DIR to a folder with libbizakoma.a")
+            }
         }
     }
     folder

@@ -4,13 +4,7 @@
 pub type Carried = [u64; 3];
 
 extern "C" {
-    pub fn bizakoma_identity(
-        model: *const u8,
-        model_length: usize,
-        map: *mut u8,
-        map_length: usize,
-        carried: *mut Carried,
-    ) -> u32;
+    pub fn bizakoma_identity(model: *const u8, model_length: usize, map: *mut u8, map_length: usize, carried: *mut Carried) -> u32;
 
     pub fn bizakoma_check(
         source: *const u8,

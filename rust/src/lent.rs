@@ -37,16 +37,7 @@ pub fn check(source: &[u8], target: &[u8], pairs: &[u8], map: &mut [u8]) -> Numb
 pub fn apply(source: &[u8], target: &[u8], map: &[u8], element: u8) -> Numbers {
     let mut carried = [0; 3];
     let number = unsafe {
-        ffi::bizakoma_apply(
-            source.as_ptr(),
-            source.len(),
-            target.as_ptr(),
-            target.len(),
-            map.as_ptr(),
-            map.len(),
-            element,
-            &mut carried,
-        )
+        ffi::bizakoma_apply(source.as_ptr(), source.len(), target.as_ptr(), target.len(), map.as_ptr(), map.len(), element, &mut carried)
     };
     Numbers { number, carried }
 }
