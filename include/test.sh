@@ -30,6 +30,11 @@ program() {
     compare "$1 as C++17" "$made/cpp" "$top/$2"
 }
 
+# The library defines the functions that the header declares, and no other name.
+grep -o 'bizakoma_[a-z_]*(' "$top/include/bizakoma.h" | tr -d '(' | sort >"$made/declared"
+nm -g --defined-only "$library" | awk 'NF == 3 { print $3 }' | sort >"$made/defined"
+diff -u "$made/declared" "$made/defined" || { echo "include/test.sh: the library and the header have other names"; exit 1; }
+
 printf '#include "bizakoma.h"\n' >"$made/alone.c"
 as_c -c "$made/alone.c" -o "$made/alone.o"
 as_cpp -c "$made/alone.c" -o "$made/alone.o"
