@@ -9,10 +9,10 @@ is not there.
 import os
 import sys
 
-from answers import explain
 from expected import job_in
 from job_text import read_job
 from program import HERE, built, printed
+from words import explain
 
 JOBS = "first-save", "second-save", "small-budget", "no-pairs"
 

@@ -12,10 +12,10 @@ a model looks like, job_text.py that of a job.
 import argparse
 import sys
 
-from answers import NotAnAnswer, explain
 from job_text import read_job, text_in, to_job_bytes
 from model_text import TextError, made_names, read_text, write_text
 from stored import Fault, from_bytes, to_bytes
+from words import NotAnAnswer, explain
 
 
 def model_command(options):

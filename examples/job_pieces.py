@@ -28,6 +28,8 @@ RING_012 = model("01 0001 03  02 0003 00 01 02  03 000b 02 00 00 0003 00 01 01 0
 RING_021 = model("01 0001 03  02 0003 00 01 02  03 000b 02 00 00 0003 00 02 01 00 02 01  00 0000")
 RING_OF_6 = model("01 0001 06  02 0006 00 01 02 03 04 05  03 0011 02 00 00 0006 00 01 01 02 02 03 03 04 04 05 05 00  00 0000")
 TWO_RINGS = model("01 0001 06  02 0006 00 01 02 03 04 05  03 0011 02 00 00 0006 00 01 01 02 02 00 03 04 04 05 05 03  00 0000")
+PAIR_AND_RING = model("01 0002 02 06  02 0008 00 01 02 03 04 05 06 07  03 0011 02 01 01 0006 02 03 03 04 04 05 05 06 06 07 07 02  00 0000")
+PAIR_AND_RINGS = model("01 0002 02 06  02 0008 00 01 02 03 04 05 06 07  03 0011 02 01 01 0006 02 03 03 04 04 02 05 06 06 07 07 05  00 0000")
 ELEMENTS_64 = model("01 0001 40  02 0040") + bytes(range(64)) + model("00 0000")
 ELEMENTS_65 = model("01 0001 41  02 0041") + bytes(range(65)) + model("00 0000")
 
@@ -58,6 +60,7 @@ def answered():
         "none-64-elements": job(ELEMENTS_64, V2),
         "none-row-counts": job(HOLDS, HOLDS_NOT),
         "none-rings": job(RING_OF_6, TWO_RINGS),
+        "none-smallest-class": job(PAIR_AND_RING, PAIR_AND_RINGS),
         "budget-one-short": job(RING_OF_6, TWO_RINGS, budget=18),
         "budget-before-closing": job(EMPTY, EMPTY, budget=1),
         "budget-of-none": job(E01, E00, budget=0),

@@ -22,9 +22,9 @@ def built():
 
 
 def printed(program, job):
-    """What the program prints on a job's bytes; a run that a signal ends is told after it."""
+    """What the program prints on a job's bytes, with its exit status after it if that is not 0."""
     run = subprocess.run([program], input=job, stdout=subprocess.PIPE, check=False)
-    return run.stdout.decode("ascii", "replace") + (f"signal {-run.returncode}" if run.returncode < 0 else "")
+    return run.stdout.decode("ascii", "replace") + (f"exit status {run.returncode}" if run.returncode else "")
 
 
 def compare(program, cases):

@@ -2,10 +2,10 @@
 import os
 import unittest
 
-from answers import NotAnAnswer, explain
 from job_text import Job, Side, read_job
 from make import PRESCRIPTION
 from model_text import read_text
+from words import NotAnAnswer, explain
 
 
 def side(name, text):

@@ -1,4 +1,4 @@
-"""The line that the program prints, in words, and in names where the job's text is at hand."""
+"""The line that the program prints, said in words, and in names where the job's text is at hand."""
 from model_text import times
 
 SIDES = {1: "left", 2: "right"}
