@@ -12,7 +12,7 @@ import sys
 from expected import job_in
 from job_text import read_job
 from program import HERE, built, printed
-from words import explain
+from words import NotAnAnswer, explain
 
 JOBS = "first-save", "second-save", "small-budget", "no-pairs"
 
@@ -25,8 +25,11 @@ def answer_words(name, line):
 
 def main():
     program = sys.argv[1] if len(sys.argv) > 1 else built()
-    for name in JOBS:
-        print(answer_words(name, printed(program, job_in(f"prescription/{name}.job")).rstrip("\n")), end="")
+    try:
+        for name in JOBS:
+            print(answer_words(name, printed(program, job_in(f"prescription/{name}.job")).rstrip("\n")), end="")
+    except NotAnAnswer as wrong:
+        sys.exit(f"{name}: {wrong}")
 
 
 if __name__ == "__main__":

@@ -44,7 +44,7 @@ def made_names(model):
 
 def lines_of(text):
     """Line number and words of each line that holds more than a comment."""
-    for number, line in enumerate(text.splitlines(), 1):
+    for number, line in enumerate(text.split("\n"), 1):
         words = line.split("#")[0].strip()
         if words:
             yield number, words
