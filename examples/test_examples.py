@@ -31,7 +31,8 @@ class Files(unittest.TestCase):
         files = made()
         for name, data in files.items():
             self.assertEqual(job_in(name), data, name)
-        stored = {f"{folder}/{name}" for folder in ("jobs", "prescription") for name in os.listdir(os.path.join(HERE, folder)) if name.endswith(BYTES)}
+        stored = {f"{folder}/{name}" for folder in ("jobs", "prescription")
+                  for name in os.listdir(os.path.join(HERE, folder)) if name.endswith(BYTES)}
         self.assertEqual(stored, set(files))
 
     def test_expected_lines(self):
@@ -82,7 +83,8 @@ class Tool(unittest.TestCase):
 
     def run_tool(self, *arguments, given=b""):
         with tempfile.TemporaryDirectory() as folder:
-            return subprocess.run([sys.executable, os.path.join(HERE, "desk.py"), *arguments], cwd=folder, input=given, capture_output=True, check=False)
+            command = [sys.executable, os.path.join(HERE, "desk.py"), *arguments]
+            return subprocess.run(command, cwd=folder, input=given, capture_output=True, check=False)
 
     def prints(self, output, *arguments, given=b""):
         run = self.run_tool(*arguments, given=given)

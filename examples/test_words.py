@@ -18,7 +18,8 @@ JOB = Job(side("save", EAR + "left quiet"), side("report", EAR + "left phone"), 
 
 class Words(unittest.TestCase):
     def test_found(self):
-        self.assertEqual(explain("0 36 1 0 2 -", JOB), "found, 36 units; ear: left -> right, right -> left; program: quiet -> quiet, phone merged into quiet")
+        self.assertEqual(explain("0 36 1 0 2 -", JOB),
+                         "found, 36 units; ear: left -> right, right -> left; program: quiet -> quiet, phone merged into quiet")
         self.assertEqual(explain("0 1 1 0 -"), "found, 1 unit; 0 -> 1, 1 -> 0, 2 merged")
         self.assertEqual(explain("0 2"), "found, 2 units")
 
