@@ -18,6 +18,8 @@ def built():
             sys.exit("rt, the toolchain's command, is not there")
         except subprocess.CalledProcessError:
             sys.exit("rt check job failed")
+        if not os.path.exists(BUILT):
+            sys.exit("rt check job left no target/bin/job: remove target/ and try again")
     return BUILT
 
 
