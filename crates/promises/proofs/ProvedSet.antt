@@ -34,6 +34,7 @@ use Rattle.search.specs.Partners.{pairsFrom, partnersFrom, partnersOf}
 use Rattle.search.specs.Machine.{imageOf, mapOf, closesAt, closes, choiceAt, afterStable, afterRound, afterClosing, goneOn, tried, tryCandidate, nextChoice, step, run}
 use Rattle.search.specs.Answer as search
 use Rattle.search.specs.Answer.{answerOf as foundOf, written as foundWritten}
+use Rattle.promises.specs.Bound.{N, bound}
 use Rattle.search.specs.Find.{sameRowCount, alike, startFrom, searched, findPaired, findAmong, findModels, findFiles, pairsUnder, underModels, underFiles}
 
 -- a file of one type with so many elements, each its own representative, and no relation
@@ -128,6 +129,9 @@ proved =
     -- 9. Directed ring of six against two rings of three: 1, 19 units; budget 18: answer 2, 18 units
     ∷ says (finding (graph 6 6 (0 ∷ 1 ∷ 1 ∷ 2 ∷ 2 ∷ 3 ∷ 3 ∷ 4 ∷ 4 ∷ 5 ∷ 5 ∷ 0 ∷ [])) (graph 6 6 (0 ∷ 1 ∷ 1 ∷ 2 ∷ 2 ∷ 0 ∷ 3 ∷ 4 ∷ 4 ∷ 5 ∷ 5 ∷ 3 ∷ [])) [] 1000 (7 ∷ 7 ∷ 7 ∷ 7 ∷ 7 ∷ 7 ∷ [])) (1 ∷ 19 ∷ []) (7 ∷ 7 ∷ 7 ∷ 7 ∷ 7 ∷ 7 ∷ [])
     ∷ says (finding (graph 6 6 (0 ∷ 1 ∷ 1 ∷ 2 ∷ 2 ∷ 3 ∷ 3 ∷ 4 ∷ 4 ∷ 5 ∷ 5 ∷ 0 ∷ [])) (graph 6 6 (0 ∷ 1 ∷ 1 ∷ 2 ∷ 2 ∷ 0 ∷ 3 ∷ 4 ∷ 4 ∷ 5 ∷ 5 ∷ 3 ∷ [])) [] 18 (7 ∷ 7 ∷ 7 ∷ 7 ∷ 7 ∷ 7 ∷ [])) (2 ∷ 18 ∷ []) (7 ∷ 7 ∷ 7 ∷ 7 ∷ 7 ∷ 7 ∷ [])
+    -- one element, a budget of the bound: 0, 2 units, map 0; so a bound of r·N(r) - 1, which is 0 here, would not do
+    ∷ says (finding (elements 1) (elements 1) [] (bound 1) (7 ∷ [])) (0 ∷ 2 ∷ []) (0 ∷ [])
+    ∷ says (finding (elements 1) (elements 1) [] 0 (7 ∷ [])) (2 ∷ 0 ∷ []) (7 ∷ [])
     -- 10. V2 without rows to V2 with E(0,1): pairs (0,0),(1,1) accepted, inverse 1
     ∷ says (checking noLink (link 0 1) (0 ∷ 0 ∷ 1 ∷ 1 ∷ []) (7 ∷ 7 ∷ 7 ∷ [])) (0 ∷ []) (0 ∷ 1 ∷ 7 ∷ [])
     ∷ says (inverse noLink (link 0 1) (0 ∷ 1 ∷ []) (7 ∷ 7 ∷ 7 ∷ [])) (1 ∷ []) (7 ∷ 7 ∷ 7 ∷ [])
@@ -146,5 +150,5 @@ proved =
     ∷ []
 
 pub proved-set : map (λ (e : Example). said (e .call)) proved ≡ map (λ (e : Example). e .answer) proved
-unfolding proved says said ofParsed ofOutcome elements noLink link merged parse parseRoots modelWith restAt before itemAt endAt fieldAt typesHold typeIn typesFrom rootHolds rootsHold headIf headOf relationHolds shapeHolds rowsHold rowTyped entryTyped columnHolds isRepIn signature sameSignature all any keep pairwise sum upFrom lowest firstAt firsts sameRow ascending ascendingFrom rowBefore rowsOf over through hasRow normalRows normalCount imagesOf rowsKept keptBy firstUnkeptBy entryIn isMap identityEntry identityOf alone oneToOne reached onto sameCount sameCounts invertible inverseEntry inverseOf pairIn conflicts giveFrom answerOf written withModel isMissing firstMissing judged judgedIf blank checkModels checkFiles identityModel identityFile applyModels applyFiles inverseModels inverseFiles relationCanonical canonical howMany paired leftColour leftColours rightColour rightColours placesInRow placesInRows placesFrom keyOf sameBag sameKey reps palette newColour recoloured round coloursOf colourCount equalCounts outcome roundOutcome smaller smallestFrom smallestOpen lowestOf pairsFrom partnersFrom partnersOf imageOf mapOf closesAt closes choiceAt afterStable afterRound afterClosing goneOn tried tryCandidate nextChoice step run sameRowCount alike startFrom searched findPaired findAmong findModels findFiles pairsUnder underModels underFiles foundOf foundWritten ofSearch empty nullary graph
+unfolding proved says said ofParsed ofOutcome elements noLink link merged parse parseRoots modelWith restAt before itemAt endAt fieldAt typesHold typeIn typesFrom rootHolds rootsHold headIf headOf relationHolds shapeHolds rowsHold rowTyped entryTyped columnHolds isRepIn signature sameSignature all any keep pairwise sum upFrom lowest firstAt firsts sameRow ascending ascendingFrom rowBefore rowsOf over through hasRow normalRows normalCount imagesOf rowsKept keptBy firstUnkeptBy entryIn isMap identityEntry identityOf alone oneToOne reached onto sameCount sameCounts invertible inverseEntry inverseOf pairIn conflicts giveFrom answerOf written withModel isMissing firstMissing judged judgedIf blank checkModels checkFiles identityModel identityFile applyModels applyFiles inverseModels inverseFiles relationCanonical canonical howMany paired leftColour leftColours rightColour rightColours placesInRow placesInRows placesFrom keyOf sameBag sameKey reps palette newColour recoloured round coloursOf colourCount equalCounts outcome roundOutcome smaller smallestFrom smallestOpen lowestOf pairsFrom partnersFrom partnersOf imageOf mapOf closesAt closes choiceAt afterStable afterRound afterClosing goneOn tried tryCandidate nextChoice step run sameRowCount alike startFrom searched findPaired findAmong findModels findFiles pairsUnder underModels underFiles foundOf foundWritten ofSearch empty nullary graph N bound
 proved-set = refl

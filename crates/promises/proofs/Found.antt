@@ -1,0 +1,64 @@
+-- Promise 1, Found: if find with pairs answers 0, the map written is one to one and onto between the classes, keeps types and pairs, is 255 exactly at aliases, and carries each relation
+-- exactly onto its counterpart. That the files hold canonical models of one signature, that there is room and that the pairs are good need not be asked: else the number is not 0
+-- (`found-only`). Assumes nothing.
+use Prim.Native.Nat.{ℕ}
+use mathlib.Core.Path.{_≡_, _∙_, ap}
+use mathlib.Core.Bool.{true}
+use mathlib.Core.List.{List, [], _∷_}
+use lib.ListN.{length}
+use Rattle.stored.specs.Model.{Model}
+use Rattle.stored.specs.Parse.{model, parse}
+use Rattle.stored.specs.Canonical.{canonical}
+use Rattle.stored.specs.Signature.{signature, sameSignature}
+use Rattle.search.specs.Machine as machine
+use Rattle.search.specs.Answer.{Outcome, ended, written}
+use Rattle.search.specs.Find.{findFiles}
+use Rattle.search.proofs.Laws.Answer.{found-by, written-found}
+use Rattle.search.proofs.Theorems.Partners.{AllGood}
+use Rattle.search.proofs.Theorems.Asked.{among-ended}
+use Rattle.search.proofs.Theorems.Ends.{holds-formed}
+use Rattle.search.proofs.Theorems.Decides.{files-found}
+use Rattle.promises.specs.Isomorphism.{FoundMap}
+use Rattle.promises.specs.Calls.{findSays, findWrites}
+use Rattle.promises.proofs.Laws.{of-models, wrote-map}
+
+module _ (s t pairs : List ℕ) (budget : ℕ) (out work : List ℕ) (u : ℕ) (says : findSays s t pairs budget out work ≡ 0 ∷ u ∷ []) where
+  outcome : (f : List ℕ) × (findFiles s t pairs budget (length out) (length work) ≡ ended (machine.found u f))
+  outcome = found-by (findFiles s t pairs budget (length out) (length work)) u says
+
+  pub found : (a b : Model) → parse s ≡ model a → parse t ≡ model b → FoundMap a b pairs out (findWrites s t pairs budget out work)
+  unfolding wrote-map
+  found =
+      let g = outcome .0 in
+      let e = outcome .1 in
+      let c = files-found s t pairs budget (length out) (length work) u g e in
+      let stands = ap (λ (o : Outcome). written o out) e ∙ written-found u g out in
+      of-models s t (c .call .left) (c .call .right) (λ (a b : Model). FoundMap a b pairs out (findWrites s t pairs budget out work)) (record {
+        wrote = wrote-map (c .call .left .its-model) (c .call .right .its-model) (holds-formed s (c .call .left)) (holds-formed t (c .call .right)) g out (findWrites s t pairs budget out work) (c .sound) (c .typed) stands;
+        honours = c .honours;
+      })
+
+  -- 0 is answered only for canonical models of one signature and good pairs
+  pub record Asked : Type 0 where
+    pub left : Model
+    pub right : Model
+    pub left-held : parse s ≡ model left
+    pub right-held : parse t ≡ model right
+    pub left-canonical : canonical left ≡ true
+    pub right-canonical : canonical right ≡ true
+    pub one-signature : sameSignature (signature left) (signature right) ≡ true
+    pub good-pairs : AllGood left right pairs
+
+  pub found-only : Asked
+  found-only =
+      let c = files-found s t pairs budget (length out) (length work) u (outcome .0) (outcome .1) .call in
+      record {
+        left = c .left .its-model;
+        right = c .right .its-model;
+        left-held = c .left .parsed;
+        right-held = c .right .parsed;
+        left-canonical = c .comparable .left-canonical;
+        right-canonical = c .comparable .right-canonical;
+        one-signature = c .comparable .one-signature;
+        good-pairs = among-ended (c .left .its-model) (c .right .its-model) pairs budget (machine.found u (outcome .0)) (c .comes-to) .0;
+      }
