@@ -13,7 +13,6 @@ use lib.Dec.{eqb}
 use Rattle.lists.specs.First.{firstAt, firsts}
 use Rattle.lists.specs.Numbers.{upFrom}
 use Rattle.lists.specs.Order.{sameRow}
-use Rattle.lists.specs.Part.{over}
 use Rattle.lists.proofs.Laws.Tests.{split}
 use Rattle.lists.proofs.Laws.Every.{mem-all, getD-mem, getD-inside, mem-place}
 use Rattle.lists.proofs.Laws.First.{firstAt-passes, firstAt-some}
@@ -30,7 +29,7 @@ use Rattle.stored.proofs.Laws.Representatives.{rep-below, rep-root}
 use Rattle.rows.specs.Rows.{through, hasRow, imagesOf, normalCount, kept}
 use Rattle.rows.specs.Maps.{isMap, alone, oneToOne, reached, onto, sameCount, sameCounts, invertible, inverseOf}
 use Rattle.rows.specs.Pairs.{pairCount, leftAt, rightAt}
-use Rattle.rows.specs.Answer.{accepted, refused, answerOf, written, numbers}
+use Rattle.rows.specs.Answer.{accepted, refused, numbers}
 use Rattle.rows.specs.Check.{checkModels, checkFiles}
 use Rattle.rows.specs.Inverse.{inverseModels, inverseFiles}
 use Rattle.rows.proofs.Laws.Answer.{answer-accepted, written-accepted}
@@ -48,11 +47,13 @@ use Rattle.rounds.specs.Round.{reps}
 use Rattle.rounds.proofs.Theorems.Keys.{reps-below, reps-rep}
 use Rattle.rounds.proofs.Theorems.Carrying.{known-reps, rows-distinct, canonical-within, sets-carry}
 use Rattle.search.proofs.Theorems.Never.{same-rows}
-use Rattle.promises.specs.Isomorphism.{imageBy, Wrote, ownPairs}
-use Rattle.promises.specs.Calls.{findSays}
-use Rattle.promises.proofs.Laws.{of-models, carries-sets}
+use Rattle.search.proofs.Theorems.Ends.{Comparable}
+use Rattle.promises.specs.Isomorphism.{imageBy, mapIn, Wrote, ownPairs}
+use Rattle.promises.specs.Calls.{findSays, findWrites, underSays, underWrites, Checks, Inverts}
+use Rattle.promises.proofs.Laws.{carries-sets}
 use Rattle.rows.proofs.Laws.Invertible.{one-to-one-each, onto-each, counts-each, count-same, normal-count, inverse-files}
-use Rattle.promises.proofs.Found.{found, found-only}
+use Rattle.promises.proofs.Found.{found, found-comparable}
+use Rattle.promises.proofs.UnderABase.{found-under, under-comparable}
 
 map-self : {A : Type 0} (f : A → A) (xs : List A) → ((x : A) → List·Memᴰ x xs → f x ≡ x) → map f xs ≡ xs
 map-self f [] h = refl
@@ -100,7 +101,7 @@ module _ (f : List ℕ) where
 -- an isomorphism that was written
 module _ (a b : Model) (wa : WellFormed a) (wb : WellFormed b) (left-plain : canonical a ≡ true) (right-plain : canonical b ≡ true) (before after : List ℕ) (w : Wrote a b before after) where
   abbrev f : List ℕ
-  f = w .its-map
+  f = mapIn a after
 
   small : length f ≤ 255
   small = omega (arith, w .its-length, wa .few-elements)
@@ -215,36 +216,70 @@ module _ (a b : Model) (wa : WellFormed a) (wb : WellFormed b) (left-plain : can
       (λ j l. let i : j < length (reps a) = omega (arith, own-count) in (own-good j i, ap (imageBy f) (own-named j i) ∙ sym (own-meant j i)))
       (λ x r. let p = mem-place (reps a) x (known-reps a wa x r) in (p .0, omega (arith, p .1, own-count), p .2 ∙ sym (own-named (p .0) (p .1))))
 
+-- so of two files that hold the models
+module _ (s t : List ℕ) (a b : Model) (p : parse s ≡ model a) (q : parse t ≡ model b) (c : Comparable a b) (before after : List ℕ) (w : Wrote a b before after) where
+  files-is-map : isMap a b (mapIn a after) ≡ true
+  files-is-map = wrote-is-map a b (well-formed s a p) (well-formed t b q) (c .left-canonical) (c .right-canonical) before after w
+
+  files-has-inverse : (other : List ℕ) → size b ≤ length other → Inverts s t b (mapIn a after) other
+  files-has-inverse other fits =
+      let f = mapIn a after in
+      let i = wrote-invertible a b (well-formed s a p) (well-formed t b q) (c .left-canonical) (c .right-canonical) before after w in
+      let e =
+      inverse-files s t f (length other)
+      ∙ with-models refused (inverseModels f (length other)) s t a b p q
+      ∙ inverse-exists a b (well-formed s a p) (well-formed t b q) f (length other) fits (c .one-signature) files-is-map i
+      in
+      (ap numbers (answer-accepted (inverseFiles s t f (length other)) (inverseOf b f) e), written-accepted (inverseFiles s t f (length other)) (inverseOf b f) e other)
+
+  files-is-checked : (other : List ℕ) → size a ≤ length other → Checks s t (ownPairs (mapIn a after) (reps a)) (mapIn a after) other
+  files-is-checked other fits =
+      let f = mapIn a after in
+      let list = ownPairs f (reps a) in
+      let k = wrote-checked a b (well-formed s a p) (well-formed t b q) (c .left-canonical) (c .right-canonical) before after w (length other) fits (c .one-signature) in
+      let e = check-files s t list (length other) ∙ with-models refused (checkModels list (length other)) s t a b p q ∙ k in
+      (ap numbers (answer-accepted (checkFiles s t list (length other)) f e), written-accepted (checkFiles s t list (length other)) f e other)
+
 -- what find with pairs answers with 0
 module _ (s t pairs : List ℕ) (budget : ℕ) (out work : List ℕ) (u : ℕ) (says : findSays s t pairs budget out work ≡ 0 ∷ u ∷ []) (a b : Model) (p : parse s ≡ model a) (q : parse t ≡ model b) where
   abbrev pub mapFound : List ℕ
-  mapFound = found s t pairs budget out work u says a b p q .wrote .its-map
+  mapFound = mapIn a (findWrites s t pairs budget out work)
 
-  plain : (canonical a ≡ true) × (canonical b ≡ true) × (sameSignature (signature a) (signature b) ≡ true)
-  plain =
-      let k = found-only s t pairs budget out work u says in
-      of-models s t (record { its-model = k .left; parsed = k .left-held }) (record { its-model = k .right; parsed = k .right-held })
-      (λ (a b : Model). (canonical a ≡ true) × (canonical b ≡ true) × (sameSignature (signature a) (signature b) ≡ true)) (k .left-canonical, k .right-canonical, k .one-signature) a b p q
+  its-models : Comparable a b
+  its-models = found-comparable s t pairs budget out work u says a b p q
+
+  its-output : Wrote a b out (findWrites s t pairs budget out work)
+  its-output = found s t pairs budget out work u says a b p q .wrote
 
   -- "accepted by the definition of a map"
   pub found-is-map : isMap a b mapFound ≡ true
-  found-is-map = wrote-is-map a b (well-formed s a p) (well-formed t b q) (plain .0) (plain .1) _ _ (found s t pairs budget out work u says a b p q .wrote)
+  found-is-map = files-is-map s t a b p q its-models _ _ its-output
 
   -- "inverse answers 0 for it"
-  pub found-has-inverse :
-      (other : List ℕ) → size b ≤ length other
-      → (numbers (answerOf (inverseFiles s t mapFound (length other))) ≡ 0 ∷ []) × (written (inverseFiles s t mapFound (length other)) other ≡ over (inverseOf b mapFound) other)
-  found-has-inverse other fits =
-      let i = wrote-invertible a b (well-formed s a p) (well-formed t b q) (plain .0) (plain .1) _ _ (found s t pairs budget out work u says a b p q .wrote) in
-      let e = inverse-files s t mapFound (length other) ∙ with-models refused (inverseModels mapFound (length other)) s t a b p q ∙ inverse-exists a b (well-formed s a p) (well-formed t b q) mapFound (length other) fits (plain .2) found-is-map i in
-      (ap numbers (answer-accepted (inverseFiles s t mapFound (length other)) (inverseOf b mapFound) e), written-accepted (inverseFiles s t mapFound (length other)) (inverseOf b mapFound) e other)
+  pub found-has-inverse : (other : List ℕ) → size b ≤ length other → Inverts s t b mapFound other
+  found-has-inverse = files-has-inverse s t a b p q its-models _ _ its-output
 
   -- "check accepts its own pair list"
-  pub found-is-checked :
-      (other : List ℕ) → size a ≤ length other
-      → (numbers (answerOf (checkFiles s t (ownPairs mapFound (reps a)) (length other))) ≡ 0 ∷ []) × (written (checkFiles s t (ownPairs mapFound (reps a)) (length other)) other ≡ over mapFound other)
-  found-is-checked other fits =
-      let list = ownPairs mapFound (reps a) in
-      let c = wrote-checked a b (well-formed s a p) (well-formed t b q) (plain .0) (plain .1) _ _ (found s t pairs budget out work u says a b p q .wrote) (length other) fits (plain .2) in
-      let e = check-files s t list (length other) ∙ with-models refused (checkModels list (length other)) s t a b p q ∙ c in
-      (ap numbers (answer-accepted (checkFiles s t list (length other)) mapFound e), written-accepted (checkFiles s t list (length other)) mapFound e other)
+  pub found-is-checked : (other : List ℕ) → size a ≤ length other → Checks s t (ownPairs mapFound (reps a)) mapFound other
+  found-is-checked = files-is-checked s t a b p q its-models _ _ its-output
+
+-- and what find under a base answers with 0
+module _ (r s t toLeft toRight : List ℕ) (budget : ℕ) (out work : List ℕ) (u : ℕ) (says : underSays r s t toLeft toRight budget out work ≡ 0 ∷ u ∷ []) where
+  module _ (o a b : Model) (held : parse r ≡ model o) (p : parse s ≡ model a) (q : parse t ≡ model b) where
+    abbrev pub mapUnder : List ℕ
+    mapUnder = mapIn a (underWrites r s t toLeft toRight budget out work)
+
+    models-under : Comparable a b
+    models-under = under-comparable r s t toLeft toRight budget out work u says o a b held p q
+
+    output-under : Wrote a b out (underWrites r s t toLeft toRight budget out work)
+    output-under = found-under r s t toLeft toRight budget out work u says o a b held p q .wrote
+
+    pub under-is-map : isMap a b mapUnder ≡ true
+    under-is-map = files-is-map s t a b p q models-under _ _ output-under
+
+    pub under-has-inverse : (other : List ℕ) → size b ≤ length other → Inverts s t b mapUnder other
+    under-has-inverse = files-has-inverse s t a b p q models-under _ _ output-under
+
+    pub under-is-checked : (other : List ℕ) → size a ≤ length other → Checks s t (ownPairs mapUnder (reps a)) mapUnder other
+    under-is-checked = files-is-checked s t a b p q models-under _ _ output-under

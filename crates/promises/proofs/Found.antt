@@ -2,7 +2,7 @@
 -- exactly onto its counterpart. That the files hold canonical models of one signature, that there is room and that the pairs are good need not be asked: else the number is not 0
 -- (`found-only`). Assumes nothing.
 use Prim.Native.Nat.{ℕ}
-use mathlib.Core.Path.{_≡_, _∙_, ap}
+use mathlib.Core.Path.{_≡_, sym, _∙_, ap, subst}
 use mathlib.Core.Bool.{true}
 use mathlib.Core.List.{List, [], _∷_}
 use lib.ListN.{length}
@@ -16,42 +16,49 @@ use Rattle.search.specs.Find.{findFiles}
 use Rattle.search.proofs.Laws.Answer.{found-by, written-found}
 use Rattle.search.proofs.Theorems.Partners.{AllGood}
 use Rattle.search.proofs.Theorems.Asked.{among-ended}
-use Rattle.search.proofs.Theorems.Ends.{holds-formed}
-use Rattle.search.proofs.Theorems.Decides.{files-found}
-use Rattle.promises.specs.Isomorphism.{FoundMap}
+use Rattle.search.proofs.Theorems.Ends.{Comparable, holds-formed}
+use Rattle.search.proofs.Theorems.Decides.{FoundInFiles, files-found}
+use Rattle.promises.specs.Isomorphism.{HonoursPairs, imageBy, FoundMap}
 use Rattle.promises.specs.Calls.{findSays, findWrites}
-use Rattle.promises.proofs.Laws.{of-models, wrote-map}
+use Rattle.promises.proofs.Laws.{of-models, map-in, wrote-map}
+
+-- what is known of the input where find with pairs answers 0: canonical models of one signature, and pairs of known elements with like types
+pub record Asked (s t pairs : List ℕ) : Type 0 where
+  pub left : Model
+  pub right : Model
+  pub left-held : parse s ≡ model left
+  pub right-held : parse t ≡ model right
+  pub left-canonical : canonical left ≡ true
+  pub right-canonical : canonical right ≡ true
+  pub one-signature : sameSignature (signature left) (signature right) ≡ true
+  pub good-pairs : AllGood left right pairs
 
 module _ (s t pairs : List ℕ) (budget : ℕ) (out work : List ℕ) (u : ℕ) (says : findSays s t pairs budget out work ≡ 0 ∷ u ∷ []) where
+  abbrev after : List ℕ
+  after = findWrites s t pairs budget out work
+
   outcome : (f : List ℕ) × (findFiles s t pairs budget (length out) (length work) ≡ ended (machine.found u f))
   outcome = found-by (findFiles s t pairs budget (length out) (length work)) u says
 
+  in-files : FoundInFiles s t pairs budget (length out) (length work) u (outcome .0)
+  in-files = files-found s t pairs budget (length out) (length work) u (outcome .0) (outcome .1)
+
   pub found : (a b : Model) → parse s ≡ model a → parse t ≡ model b → FoundMap a b pairs out (findWrites s t pairs budget out work)
-  unfolding wrote-map
   found =
       let g = outcome .0 in
-      let e = outcome .1 in
-      let c = files-found s t pairs budget (length out) (length work) u g e in
-      let stands = ap (λ (o : Outcome). written o out) e ∙ written-found u g out in
-      of-models s t (c .call .left) (c .call .right) (λ (a b : Model). FoundMap a b pairs out (findWrites s t pairs budget out work)) (record {
-        wrote = wrote-map (c .call .left .its-model) (c .call .right .its-model) (holds-formed s (c .call .left)) (holds-formed t (c .call .right)) g out (findWrites s t pairs budget out work) (c .sound) (c .typed) stands;
-        honours = c .honours;
+      let c = in-files in
+      let l = c .call .left in
+      let r = c .call .right in
+      let stands = ap (λ (o : Outcome). written o out) (outcome .1) ∙ written-found u g out in
+      let z = sym (map-in (l .its-model) g out after (c .sound .its-length) stands) in
+      of-models s t l r (λ (a b : Model). FoundMap a b pairs out after) (record {
+        wrote = wrote-map (l .its-model) (r .its-model) (holds-formed s l) (holds-formed t r) g out after (c .sound) (c .typed) stands;
+        honours = subst (λ (f : List ℕ). HonoursPairs (l .its-model) (r .its-model) pairs (imageBy f)) z (c .honours);
       })
 
-  -- 0 is answered only for canonical models of one signature and good pairs
-  pub record Asked : Type 0 where
-    pub left : Model
-    pub right : Model
-    pub left-held : parse s ≡ model left
-    pub right-held : parse t ≡ model right
-    pub left-canonical : canonical left ≡ true
-    pub right-canonical : canonical right ≡ true
-    pub one-signature : sameSignature (signature left) (signature right) ≡ true
-    pub good-pairs : AllGood left right pairs
-
-  pub found-only : Asked
+  pub found-only : Asked s t pairs
   found-only =
-      let c = files-found s t pairs budget (length out) (length work) u (outcome .0) (outcome .1) .call in
+      let c = in-files .call in
       record {
         left = c .left .its-model;
         right = c .right .its-model;
@@ -62,3 +69,6 @@ module _ (s t pairs : List ℕ) (budget : ℕ) (out work : List ℕ) (u : ℕ) (
         one-signature = c .comparable .one-signature;
         good-pairs = among-ended (c .left .its-model) (c .right .its-model) pairs budget (machine.found u (outcome .0)) (c .comes-to) .0;
       }
+
+  pub found-comparable : (a b : Model) → parse s ≡ model a → parse t ≡ model b → Comparable a b
+  found-comparable = let c = in-files .call in of-models s t (c .left) (c .right) Comparable (c .comparable)

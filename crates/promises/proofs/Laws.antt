@@ -1,10 +1,13 @@
 -- What several rooms need: a file holds one model; an isomorphism as it is stated here is what the theory of the search speaks of; the two bounds are one. Assumes nothing.
 use Prim.Native.Nat.{ℕ, zero, suc, _+_, _*_, max}
-use mathlib.Core.Path.{_≡_, sym, _∙_, ap, subst}
+use mathlib.Core.Path.{_≡_, sym, _∙_, ap, ap₂, subst}
+use mathlib.Core.Bool.{true, false}
 use mathlib.Core.List.{List}
 use native.Mathlib.Omega.{arith}
+use lib.ListN.{length, take}
 use Rattle.lists.specs.Part.{over}
-use Rattle.stored.specs.Model.{Model}
+use Rattle.lists.proofs.Laws.Over.{over-front}
+use Rattle.stored.specs.Model.{Model, size, isRep}
 use Rattle.stored.specs.Parse.{model, parse}
 use Rattle.stored.proofs.Laws.WellFormed.{WellFormed}
 use Rattle.rounds.proofs.Theorems.Keys.{reps-below}
@@ -13,7 +16,7 @@ use Rattle.search.proofs.Theorems.Start.{KeepsTypes}
 use Rattle.search.proofs.Theorems.Sound.{Sound}
 use Rattle.search.proofs.Theorems.Ends.{Holds}
 use Rattle.search.proofs.Theorems.Numbers.{nodes, searchBound, nodes-zero, nodes-one, nodes-more, search-bound}
-use Rattle.promises.specs.Isomorphism.{Isomorphism, imageBy, Wrote}
+use Rattle.promises.specs.Isomorphism.{Isomorphism, imageBy, mapIn, Wrote}
 use Rattle.promises.specs.Bound.{N, bound}
 
 -- a file holds one model
@@ -42,16 +45,22 @@ module _ (a b : Model) (h : ℕ → ℕ) where
   pub types-kept : Isomorphism a b h → KeepsTypes a b h
   types-kept i = i .keeps-types
 
+-- a map that was written over the front of the output stands in it
+pub map-in : (a : Model) (g before after : List ℕ) → length g ≡ size a → after ≡ over g before → mapIn a after ≡ g
+map-in a g before after l e = ap₂ take (sym l) e ∙ over-front g before
+
 module _ (a b : Model) (wa : WellFormed a) (wb : WellFormed b) (g before after : List ℕ) where
-  unfoldable pub wrote-map : Sound a b g → KeepsTypes a b (imageBy g) → after ≡ over g before → Wrote a b before after
-  wrote-map sound typed e = record {
-    its-map = g;
-    its-length = sound .its-length;
-    stands = e;
-    isomorphism = is-isomorphism a b (imageBy g) (sound .carries) typed;
-    at-alias = sound .at-alias;
-    only-at-alias = λ x r z. omega (arith, wb .few-elements, reps-below b (imageBy g x) (sound .carries .to-rep x (known-reps a wa x r)), z);
-  }
+  pub wrote-map : Sound a b g → KeepsTypes a b (imageBy g) → after ≡ over g before → Wrote a b before after
+  wrote-map sound typed e =
+      let z = sym (map-in a g before after (sound .its-length) e) in
+      record {
+        its-length = subst (λ (f : List ℕ). length f ≡ size a) z (sound .its-length);
+        rest-unchanged = subst (λ (f : List ℕ). after ≡ over f before) z e;
+        isomorphism = subst (λ (f : List ℕ). Isomorphism a b (imageBy f)) z (is-isomorphism a b (imageBy g) (sound .carries) typed);
+        at-alias = subst (λ (f : List ℕ). (x : ℕ) → isRep a x ≡ false → imageBy f x ≡ 255) z (sound .at-alias);
+        only-at-alias = subst (λ (f : List ℕ). (x : ℕ) → isRep a x ≡ true → imageBy f x ≡ 255 → ⊥) z (λ x r n.
+            omega (arith, wb .few-elements, reps-below b (imageBy g x) (sound .carries .to-rep x (known-reps a wa x r)), n));
+      }
 
 -- N and the bound are those of the search's theory
 pub N-nodes : (r : ℕ) → N r ≡ nodes r

@@ -3,7 +3,7 @@ use Prim.Native.Nat.{ℕ, _<_}
 use mathlib.Core.Path.{_≡_}
 use mathlib.Core.Bool.{true, false}
 use mathlib.Core.List.{List, [], _∷_, map, List·Memᴰ}
-use lib.ListN.{length, getD}
+use lib.ListN.{length, getD, take}
 use Rattle.lists.specs.Part.{over}
 use Rattle.stored.specs.Model.{Model, size, typeOf, rootOf, isRep, relationAt}
 use Rattle.rows.specs.Pairs.{pairCount, leftAt, rightAt}
@@ -30,24 +30,27 @@ imageBy f x = getD f x 255
 abbrev pub UnderBase : Model → List ℕ → List ℕ → (ℕ → ℕ) → Type 0
 UnderBase o toLeft toRight h = (x : ℕ) → List·Memᴰ x (reps o) → h (imageBy toLeft x) ≡ imageBy toRight x
 
--- "On 0 the first n bytes hold the map and the rest are unchanged." The output before and after a call that answers 0: an isomorphism was written over its front, 255 exactly at aliases
+-- "On 0 the first n bytes hold the map and the rest are unchanged."
+abbrev pub mapIn : Model → List ℕ → List ℕ
+mapIn a out = take (size a) out
+
+-- the output before and after a call that answers 0: an isomorphism stands in it, 255 exactly at aliases
 pub record Wrote (a b : Model) (before after : List ℕ) : Type 0 where
-  pub its-map : List ℕ
-  pub its-length : length its-map ≡ size a
-  pub stands : after ≡ over its-map before
-  pub isomorphism : Isomorphism a b (imageBy its-map)
-  pub at-alias : (x : ℕ) → isRep a x ≡ false → imageBy its-map x ≡ 255
-  pub only-at-alias : (x : ℕ) → isRep a x ≡ true → imageBy its-map x ≡ 255 → ⊥
+  pub its-length : length (mapIn a after) ≡ size a
+  pub rest-unchanged : after ≡ over (mapIn a after) before
+  pub isomorphism : Isomorphism a b (imageBy (mapIn a after))
+  pub at-alias : (x : ℕ) → isRep a x ≡ false → imageBy (mapIn a after) x ≡ 255
+  pub only-at-alias : (x : ℕ) → isRep a x ≡ true → imageBy (mapIn a after) x ≡ 255 → ⊥
 
 -- what find with pairs promises of its output
 pub record FoundMap (a b : Model) (pairs before after : List ℕ) : Type 0 where
   pub wrote : Wrote a b before after
-  pub honours : HonoursPairs a b pairs (imageBy (wrote .its-map))
+  pub honours : HonoursPairs a b pairs (imageBy (mapIn a after))
 
 -- and what find under a base does
 pub record FoundUnder (o a b : Model) (toLeft toRight before after : List ℕ) : Type 0 where
   pub wrote : Wrote a b before after
-  pub under : UnderBase o toLeft toRight (imageBy (wrote .its-map))
+  pub under : UnderBase o toLeft toRight (imageBy (mapIn a after))
 
 -- the pair list of a map: each of some elements with its image
 unfoldable pub ownPairs : List ℕ → List ℕ → List ℕ
