@@ -1,6 +1,6 @@
 -- The proved set: the numbered examples of the document, each a call with its answer, under one theorem that computes them all by the
 -- definitions on bytes. Assumes nothing.
-use Prim.Native.Nat.{ℕ, _+_, _*_}
+use Prim.Native.Nat.{ℕ, _+_, _-_, _*_}
 use mathlib.Core.Path.{_≡_, refl}
 use mathlib.Core.List.{List, [], _∷_, _++_, map}
 use lib.ListN.{length}
@@ -129,9 +129,9 @@ proved =
     -- 9. Directed ring of six against two rings of three: 1, 19 units; budget 18: answer 2, 18 units
     ∷ says (finding (graph 6 6 (0 ∷ 1 ∷ 1 ∷ 2 ∷ 2 ∷ 3 ∷ 3 ∷ 4 ∷ 4 ∷ 5 ∷ 5 ∷ 0 ∷ [])) (graph 6 6 (0 ∷ 1 ∷ 1 ∷ 2 ∷ 2 ∷ 0 ∷ 3 ∷ 4 ∷ 4 ∷ 5 ∷ 5 ∷ 3 ∷ [])) [] 1000 (7 ∷ 7 ∷ 7 ∷ 7 ∷ 7 ∷ 7 ∷ [])) (1 ∷ 19 ∷ []) (7 ∷ 7 ∷ 7 ∷ 7 ∷ 7 ∷ 7 ∷ [])
     ∷ says (finding (graph 6 6 (0 ∷ 1 ∷ 1 ∷ 2 ∷ 2 ∷ 3 ∷ 3 ∷ 4 ∷ 4 ∷ 5 ∷ 5 ∷ 0 ∷ [])) (graph 6 6 (0 ∷ 1 ∷ 1 ∷ 2 ∷ 2 ∷ 0 ∷ 3 ∷ 4 ∷ 4 ∷ 5 ∷ 5 ∷ 3 ∷ [])) [] 18 (7 ∷ 7 ∷ 7 ∷ 7 ∷ 7 ∷ 7 ∷ [])) (2 ∷ 18 ∷ []) (7 ∷ 7 ∷ 7 ∷ 7 ∷ 7 ∷ 7 ∷ [])
-    -- one element, a budget of the bound: 0, 2 units, map 0; so a bound of r·N(r) - 1, which is 0 here, would not do
+    -- the bound at r = 1: one element, a budget of the bound: 0, 2 units, map 0; of r·N(r) - 1: answer 2
     ∷ says (finding (elements 1) (elements 1) [] (bound 1) (7 ∷ [])) (0 ∷ 2 ∷ []) (0 ∷ [])
-    ∷ says (finding (elements 1) (elements 1) [] 0 (7 ∷ [])) (2 ∷ 0 ∷ []) (7 ∷ [])
+    ∷ says (finding (elements 1) (elements 1) [] (1 * N 1 - 1) (7 ∷ [])) (2 ∷ 0 ∷ []) (7 ∷ [])
     -- 10. V2 without rows to V2 with E(0,1): pairs (0,0),(1,1) accepted, inverse 1
     ∷ says (checking noLink (link 0 1) (0 ∷ 0 ∷ 1 ∷ 1 ∷ []) (7 ∷ 7 ∷ 7 ∷ [])) (0 ∷ []) (0 ∷ 1 ∷ 7 ∷ [])
     ∷ says (inverse noLink (link 0 1) (0 ∷ 1 ∷ []) (7 ∷ 7 ∷ 7 ∷ [])) (1 ∷ []) (7 ∷ 7 ∷ 7 ∷ [])

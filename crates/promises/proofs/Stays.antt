@@ -68,8 +68,14 @@ module _ (r s t f g : List ℕ) (budget : ℕ) (out work : List ℕ) (n u : ℕ)
   below-exhausted-under smaller h = call-below callUnder (under-files-steady r s t f g (length out) (length work)) budget n u decided says out smaller h
 
 -- "Exhausted is answered exactly when a unit is needed and all are used": 2 carries the budget
+all-used : (call : ℕ → Outcome) → Steady call → (budget : ℕ) (carried : List ℕ) → numbers (answerOf (call budget)) ≡ 2 ∷ carried → numbers (answerOf (call budget)) ≡ 2 ∷ budget ∷ []
+all-used call steady budget carried e =
+    let x = exhausted-by (call budget) carried e in
+    ap (λ (o : Outcome). numbers (answerOf o)) (x .1) ∙ numbers-exhausted (x .0) ∙ ap (λ (v : ℕ). 2 ∷ v ∷ []) (steady .exactly budget (x .0) (x .1))
+
 pub exhausted-all : (s t pairs : List ℕ) (budget : ℕ) (out work carried : List ℕ) → findSays s t pairs budget out work ≡ 2 ∷ carried → findSays s t pairs budget out work ≡ 2 ∷ budget ∷ []
-exhausted-all s t pairs budget out work carried e =
-    let x = exhausted-by (findFiles s t pairs budget (length out) (length work)) carried e in
-    let all = files-steady s t pairs (length out) (length work) .exactly budget (x .0) (x .1) in
-    ap (λ (o : Outcome). numbers (answerOf o)) (x .1) ∙ numbers-exhausted (x .0) ∙ ap (λ (v : ℕ). 2 ∷ v ∷ []) all
+exhausted-all s t pairs budget out work = all-used (λ (b : ℕ). findFiles s t pairs b (length out) (length work)) (files-steady s t pairs (length out) (length work)) budget
+
+pub exhausted-all-under :
+    (r s t f g : List ℕ) (budget : ℕ) (out work carried : List ℕ) → underSays r s t f g budget out work ≡ 2 ∷ carried → underSays r s t f g budget out work ≡ 2 ∷ budget ∷ []
+exhausted-all-under r s t f g budget out work = all-used (λ (b : ℕ). underFiles r s t f g b (length out) (length work)) (under-files-steady r s t f g (length out) (length work)) budget

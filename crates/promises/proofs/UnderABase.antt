@@ -16,7 +16,7 @@ use Rattle.promises.specs.Calls.{underSays, underWrites}
 use Rattle.promises.proofs.Laws.{one-model, of-models, map-in, wrote-map, carries-sets, types-kept}
 
 -- what holds of the three models that a call read holds of those that its files hold
-of-three :
+pub of-three :
     (r s t : List ℕ) (o : Holds r) (h : Holds s) (k : Holds t) (P : Model → Model → Model → Type 0) → P (o .its-model) (h .its-model) (k .its-model)
     → (base a b : Model) → parse r ≡ model base → parse s ≡ model a → parse t ≡ model b → P base a b
 of-three r s t o h k P p base a b e = of-models s t h k (P base) (subst (λ (m : Model). P m (h .its-model) (k .its-model)) (one-model r o base e) p) a b

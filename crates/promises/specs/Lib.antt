@@ -2,3 +2,4 @@
 pub mod Isomorphism
 pub mod Bound
 pub mod Calls
+pub mod Search
