@@ -1,10 +1,10 @@
--- Promise 6, Find agrees with the maps: what find with pairs answers with 0 is a map, as 19 would judge it; inverse answers 0 for it; and check accepts the list of each class with its
--- image, and writes the same map. Assumes nothing.
+-- Promise 6, Find agrees with the maps: what find with pairs and find under a base answer with 0 is a map, as 19 would judge it; inverse answers 0 for it; and check accepts the list of
+-- each class with its image, and writes the same map. Assumes nothing.
 use Prim.Native.Nat.{ℕ, zero, suc, _+_, _*_, _<_, _≤_}
-use mathlib.Core.Path.{_≡_, refl, sym, _∙_, ap, ap₂, subst}
+use mathlib.Core.Path.{_≡_, refl, sym, _∙_, ap, subst}
 use mathlib.Core.Logic.{_⊎_, inl, inr, by-cases}
 use mathlib.Core.Bool.{true, false}
-use mathlib.Core.List.{List, [], _∷_, map, List·Memᴰ, List·Memᴰ·head, List·Memᴰ·tail}
+use mathlib.Core.List.{List, [], _∷_, map, map-id, List·Memᴰ}
 use native.Mathlib.Omega.{arith}
 use native.Mathlib.Decide.{ℕ-discrete}
 use borrow.Author.Tests.{eqb-true, eq-eqb}
@@ -20,6 +20,7 @@ use Rattle.lists.proofs.Laws.Numbers.{mem-upFrom}
 use Rattle.lists.proofs.Laws.Order.{same-row, same-row-refl}
 use Rattle.lists.proofs.Laws.Sets.{Distinct, map-mem, mem-firsts, firsts-distinct, firsts-mem}
 use Rattle.lists.proofs.Laws.Counting.{distinct-fits}
+use Rattle.lists.proofs.Laws.Groups.{map-alike}
 use Rattle.stored.specs.Model.{Model, size, typeOf, rootOf, isRep, relationAt}
 use Rattle.stored.specs.Parse.{model, parse}
 use Rattle.stored.specs.Canonical.{canonical}
@@ -55,10 +56,6 @@ use Rattle.rows.proofs.Laws.Invertible.{one-to-one-each, onto-each, counts-each
 use Rattle.promises.proofs.Found.{found, found-comparable}
 use Rattle.promises.proofs.UnderABase.{found-under, under-comparable}
 
-map-self : {A : Type 0} (f : A → A) (xs : List A) → ((x : A) → List·Memᴰ x xs → f x ≡ x) → map f xs ≡ xs
-map-self f [] h = refl
-map-self f (x ∷ xs) h = ap₂ _∷_ (h x (List·Memᴰ·head refl)) (map-self f xs (λ y m. h y (List·Memᴰ·tail m)))
-
 -- rows without repetition are all first appearances
 firsts-all : (rows : List (List ℕ)) → Distinct rows → length (firsts sameRow rows) ≡ length rows
 firsts-all rows d =
@@ -76,7 +73,7 @@ module _ (m : Model) (w : WellFormed m) (plain : canonical m ≡ true) where
   plain-count : (k : ℕ) → normalCount m (relationAt m k) ≡ length (relationAt m k .rows)
   plain-count k =
       normal-count m (relationAt m k)
-      ∙ ap (λ (rows : List (List ℕ)). length (firsts sameRow rows)) (map-self (through (m .roots)) (relationAt m k .rows) (row-normal k))
+      ∙ ap (λ (rows : List (List ℕ)). length (firsts sameRow rows)) (map-alike (through (m .roots)) (λ (row : List ℕ). row) (relationAt m k .rows) (row-normal k) ∙ map-id (relationAt m k .rows))
       ∙ firsts-all (relationAt m k .rows) (rows-distinct m w k)
 
 -- the pair list of a map, pair by pair

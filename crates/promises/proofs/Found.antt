@@ -1,6 +1,6 @@
 -- Promise 1, Found: if find with pairs answers 0, the map written is one to one and onto between the classes, keeps types and pairs, is 255 exactly at aliases, and carries each relation
--- exactly onto its counterpart. That the files hold canonical models of one signature, that there is room and that the pairs are good need not be asked: else the number is not 0
--- (`found-only`). Assumes nothing.
+-- exactly onto its counterpart. Nothing is asked of the input: where the files do not hold canonical models of one signature or the pairs are not good the number is not 0 (`found-only`),
+-- nor is it where there is no room. Assumes nothing.
 use Prim.Native.Nat.{ℕ}
 use mathlib.Core.Path.{_≡_, sym, _∙_, ap, subst}
 use mathlib.Core.Bool.{true}

@@ -1,5 +1,5 @@
--- The proved set: the numbered examples of the document, each a call with its answer, under one theorem that computes them all by the
--- definitions on bytes. Assumes nothing.
+-- Promise 9, The proved set: the numbered examples of the document, 1 to 13, each a call with its answer, under one theorem that computes them all by the definitions on bytes. Assumes
+-- nothing.
 use Prim.Native.Nat.{ℕ, _+_, _-_, _*_}
 use mathlib.Core.Path.{_≡_, refl}
 use mathlib.Core.List.{List, [], _∷_, _++_, map}
@@ -63,6 +63,10 @@ graph n c rows = 1 ∷ 0 ∷ 1 ∷ n ∷ 2 ∷ 0 ∷ n ∷ (upFrom 0 n ++ (3 ∷
 -- two elements of one class
 pub merged : List ℕ
 merged = 1 ∷ 0 ∷ 1 ∷ 2 ∷ 2 ∷ 0 ∷ 2 ∷ 0 ∷ 0 ∷ 0 ∷ 0 ∷ 0 ∷ []
+
+-- one element, of the first of two types or of the second
+pub oneOf : ℕ → ℕ → List ℕ
+oneOf x y = 1 ∷ 0 ∷ 2 ∷ x ∷ y ∷ 2 ∷ 0 ∷ 1 ∷ 0 ∷ 0 ∷ 0 ∷ 0 ∷ []
 
 -- the calls of the examples; a call that writes has its output buffer last
 pub data Call : Type 0 where
@@ -129,9 +133,6 @@ proved =
     -- 9. Directed ring of six against two rings of three: 1, 19 units; budget 18: answer 2, 18 units
     ∷ says (finding (graph 6 6 (0 ∷ 1 ∷ 1 ∷ 2 ∷ 2 ∷ 3 ∷ 3 ∷ 4 ∷ 4 ∷ 5 ∷ 5 ∷ 0 ∷ [])) (graph 6 6 (0 ∷ 1 ∷ 1 ∷ 2 ∷ 2 ∷ 0 ∷ 3 ∷ 4 ∷ 4 ∷ 5 ∷ 5 ∷ 3 ∷ [])) [] 1000 (7 ∷ 7 ∷ 7 ∷ 7 ∷ 7 ∷ 7 ∷ [])) (1 ∷ 19 ∷ []) (7 ∷ 7 ∷ 7 ∷ 7 ∷ 7 ∷ 7 ∷ [])
     ∷ says (finding (graph 6 6 (0 ∷ 1 ∷ 1 ∷ 2 ∷ 2 ∷ 3 ∷ 3 ∷ 4 ∷ 4 ∷ 5 ∷ 5 ∷ 0 ∷ [])) (graph 6 6 (0 ∷ 1 ∷ 1 ∷ 2 ∷ 2 ∷ 0 ∷ 3 ∷ 4 ∷ 4 ∷ 5 ∷ 5 ∷ 3 ∷ [])) [] 18 (7 ∷ 7 ∷ 7 ∷ 7 ∷ 7 ∷ 7 ∷ [])) (2 ∷ 18 ∷ []) (7 ∷ 7 ∷ 7 ∷ 7 ∷ 7 ∷ 7 ∷ [])
-    -- the bound at r = 1: one element, a budget of the bound: 0, 2 units, map 0; of r·N(r) - 1: answer 2
-    ∷ says (finding (elements 1) (elements 1) [] (bound 1) (7 ∷ [])) (0 ∷ 2 ∷ []) (0 ∷ [])
-    ∷ says (finding (elements 1) (elements 1) [] (1 * N 1 - 1) (7 ∷ [])) (2 ∷ 0 ∷ []) (7 ∷ [])
     -- 10. V2 without rows to V2 with E(0,1): pairs (0,0),(1,1) accepted, inverse 1
     ∷ says (checking noLink (link 0 1) (0 ∷ 0 ∷ 1 ∷ 1 ∷ []) (7 ∷ 7 ∷ 7 ∷ [])) (0 ∷ []) (0 ∷ 1 ∷ 7 ∷ [])
     ∷ says (inverse noLink (link 0 1) (0 ∷ 1 ∷ []) (7 ∷ 7 ∷ 7 ∷ [])) (1 ∷ []) (7 ∷ 7 ∷ 7 ∷ [])
@@ -147,8 +148,13 @@ proved =
     -- 13. Empty file: 10, model 1, offset 0
     ∷ says (reading []) (10 ∷ 1 ∷ 0 ∷ []) []
     ∷ says (checking [] [] [] []) (10 ∷ 1 ∷ 0 ∷ []) []
+    -- not numbered in the document: the bound at r = 1, one element: 0, 2 units, map 0; with r·N(r) - 1 units the answer is 2
+    ∷ says (finding (elements 1) (elements 1) [] (bound 1) (7 ∷ [])) (0 ∷ 2 ∷ []) (0 ∷ [])
+    ∷ says (finding (elements 1) (elements 1) [] (1 * N 1 - 1) (7 ∷ [])) (2 ∷ 0 ∷ []) (7 ∷ [])
+    -- and types: one element of the first type against one of the second: 1, 1 unit
+    ∷ says (finding (oneOf 1 0) (oneOf 0 1) [] 1000 (7 ∷ [])) (1 ∷ 1 ∷ []) (7 ∷ [])
     ∷ []
 
 pub proved-set : map (λ (e : Example). said (e .call)) proved ≡ map (λ (e : Example). e .answer) proved
-unfolding proved says said ofParsed ofOutcome elements noLink link merged parse parseRoots modelWith restAt before itemAt endAt fieldAt typesHold typeIn typesFrom rootHolds rootsHold headIf headOf relationHolds shapeHolds rowsHold rowTyped entryTyped columnHolds isRepIn signature sameSignature all any keep pairwise sum upFrom lowest firstAt firsts sameRow ascending ascendingFrom rowBefore rowsOf over through hasRow normalRows normalCount imagesOf rowsKept keptBy firstUnkeptBy entryIn isMap identityEntry identityOf alone oneToOne reached onto sameCount sameCounts invertible inverseEntry inverseOf pairIn conflicts giveFrom answerOf written withModel isMissing firstMissing judged judgedIf blank checkModels checkFiles identityModel identityFile applyModels applyFiles inverseModels inverseFiles relationCanonical canonical howMany paired leftColour leftColours rightColour rightColours placesInRow placesInRows placesFrom keyOf sameBag sameKey reps palette newColour recoloured round coloursOf colourCount equalCounts outcome roundOutcome smaller smallestFrom smallestOpen lowestOf pairsFrom partnersFrom partnersOf imageOf mapOf closesAt closes choiceAt afterStable afterRound afterClosing goneOn tried tryCandidate nextChoice step run sameRowCount alike startFrom searched findPaired findAmong findModels findFiles pairsUnder underModels underFiles foundOf foundWritten ofSearch empty nullary graph N bound
+unfolding proved says said ofParsed ofOutcome elements noLink link merged parse parseRoots modelWith restAt before itemAt endAt fieldAt typesHold typeIn typesFrom rootHolds rootsHold headIf headOf relationHolds shapeHolds rowsHold rowTyped entryTyped columnHolds isRepIn signature sameSignature all any keep pairwise sum upFrom lowest firstAt firsts sameRow ascending ascendingFrom rowBefore rowsOf over through hasRow normalRows normalCount imagesOf rowsKept keptBy firstUnkeptBy entryIn isMap identityEntry identityOf alone oneToOne reached onto sameCount sameCounts invertible inverseEntry inverseOf pairIn conflicts giveFrom answerOf written withModel isMissing firstMissing judged judgedIf blank checkModels checkFiles identityModel identityFile applyModels applyFiles inverseModels inverseFiles relationCanonical canonical howMany paired leftColour leftColours rightColour rightColours placesInRow placesInRows placesFrom keyOf sameBag sameKey reps palette newColour recoloured round coloursOf colourCount equalCounts outcome roundOutcome smaller smallestFrom smallestOpen lowestOf pairsFrom partnersFrom partnersOf imageOf mapOf closesAt closes choiceAt afterStable afterRound afterClosing goneOn tried tryCandidate nextChoice step run sameRowCount alike startFrom searched findPaired findAmong findModels findFiles pairsUnder underModels underFiles foundOf foundWritten ofSearch empty nullary graph oneOf N bound
 proved-set = refl

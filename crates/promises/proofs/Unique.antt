@@ -1,9 +1,10 @@
 -- Promise 8, Uniqueness: for each public call, two answers that both meet its contract are one answer, with one output and, of the calls of the search, one state of the work. By a left
 -- inverse of the numbers of an answer. Assumes nothing.
-use Prim.Native.Nat.{ℕ, _-_}
+use Prim.Native.Nat.{ℕ, _-_, _≤_}
 use mathlib.Core.Path.{_≡_, refl, sym, _∙_, ap}
 use mathlib.Core.List.{List, [], _∷_}
-use lib.ListN.{length, getD}
+use native.Mathlib.Omega.{arith}
+use lib.ListN.{length, getD, List·getD-eq-default}
 use Rattle.stored.specs.declared.refusal.Refusal.{Refusal}
 use Rattle.stored.specs.declared.refusal.Refusal.the-variants.{Malformed, NoRoom, NotCanonical, SignaturesDiffer, UnknownElement, TypesDiffer, ImageMissing, ConflictingImages, RelationNotKept, NotAMap, OddPairs}
 use Rattle.stored.specs.Refusal as refusal
@@ -22,6 +23,10 @@ use Rattle.search.specs.declared.answer.Answer.the-variants as search
 use Rattle.search.specs.Answer as found
 use Rattle.search.specs.Find.{findFiles, underFiles}
 
+-- the number itself stands first
+abbrev numberOf : List ℕ → ℕ
+numberOf l = getD l 0 0
+
 -- the refusal of some numbers
 abbrev refusalOf : List ℕ → Refusal
 refusalOf l = getD (
@@ -37,75 +42,53 @@ refusalOf l = getD (
     ∷ NotAMap (getD l 1 0)
     ∷ OddPairs
     ∷ []
-    ) (getD l 0 0 - 10) NoRoom
+    ) (numberOf l - 10) NoRoom
 
-pub refusal-told : (r : Refusal) → refusalOf (refusal.numbers r) ≡ r
-refusal-told (Malformed m f) = refl
-refusal-told NoRoom = refl
-refusal-told (NotCanonical m) = refl
-refusal-told SignaturesDiffer = refl
-refusal-told (UnknownElement p s) = refl
-refusal-told (TypesDiffer p) = refl
-refusal-told (ImageMissing e) = refl
-refusal-told (ConflictingImages e) = refl
-refusal-told (RelationNotKept k) = refl
-refusal-told (NotAMap m) = refl
-refusal-told OddPairs = refl
+pub refusal-told : (r : Refusal) → (10 ≤ numberOf (refusal.numbers r)) × (refusalOf (refusal.numbers r) ≡ r)
+refusal-told (Malformed m f) = (omega arith, refl)
+refusal-told NoRoom = (omega arith, refl)
+refusal-told (NotCanonical m) = (omega arith, refl)
+refusal-told SignaturesDiffer = (omega arith, refl)
+refusal-told (UnknownElement p s) = (omega arith, refl)
+refusal-told (TypesDiffer p) = (omega arith, refl)
+refusal-told (ImageMissing e) = (omega arith, refl)
+refusal-told (ConflictingImages e) = (omega arith, refl)
+refusal-told (RelationNotKept k) = (omega arith, refl)
+refusal-told (NotAMap m) = (omega arith, refl)
+refusal-told OddPairs = (omega arith, refl)
+
+-- so a refusal is told from ten other answers at most
+refused-told :
+    {A : Type 0} (others : List A) (refused : Refusal → A) (r : Refusal) → length others ≤ 10
+    → getD others (numberOf (refusal.numbers r)) (refused (refusalOf (refusal.numbers r))) ≡ refused r
+refused-told others refused r few = let told = refusal-told r in List·getD-eq-default others (refused (refusalOf (refusal.numbers r))) (omega (arith, few, told .0)) ∙ ap refused (told .1)
 
 -- the answers of the calls on maps, of apply, and of the search, by their numbers
 abbrev answerBy : List ℕ → Answer
-answerBy l = getD (answer.Accepted ∷ answer.None ∷ []) (getD l 0 0) (answer.Refused (refusalOf l))
+answerBy l = getD (answer.Accepted ∷ answer.None ∷ []) (numberOf l) (answer.Refused (refusalOf l))
 
 pub answer-told : (r : Answer) → answerBy (numbers r) ≡ r
 answer-told answer.Accepted = refl
 answer-told answer.None = refl
-answer-told (answer.Refused (Malformed m f)) = refl
-answer-told (answer.Refused NoRoom) = refl
-answer-told (answer.Refused (NotCanonical m)) = refl
-answer-told (answer.Refused SignaturesDiffer) = refl
-answer-told (answer.Refused (UnknownElement p s)) = refl
-answer-told (answer.Refused (TypesDiffer p)) = refl
-answer-told (answer.Refused (ImageMissing e)) = refl
-answer-told (answer.Refused (ConflictingImages e)) = refl
-answer-told (answer.Refused (RelationNotKept k)) = refl
-answer-told (answer.Refused (NotAMap m)) = refl
-answer-told (answer.Refused OddPairs) = refl
+answer-told (answer.Refused r) = refused-told (answer.Accepted ∷ answer.None ∷ []) answer.Refused r (omega arith)
 
 abbrev appliedBy : List ℕ → Applied
-appliedBy l = getD (applied.Image (record { 0 = getD l 1 0 }) ∷ []) (getD l 0 0) (applied.Refused (refusalOf l))
+appliedBy l = getD (applied.Image (record { 0 = getD l 1 0 }) ∷ []) (numberOf l) (applied.Refused (refusalOf l))
 
 pub applied-told : (r : Applied) → appliedBy (appliedNumbers r) ≡ r
 applied-told (applied.Image e) = refl
-applied-told (applied.Refused (Malformed m f)) = refl
-applied-told (applied.Refused NoRoom) = refl
-applied-told (applied.Refused (NotCanonical m)) = refl
-applied-told (applied.Refused SignaturesDiffer) = refl
-applied-told (applied.Refused (UnknownElement p s)) = refl
-applied-told (applied.Refused (TypesDiffer p)) = refl
-applied-told (applied.Refused (ImageMissing e)) = refl
-applied-told (applied.Refused (ConflictingImages e)) = refl
-applied-told (applied.Refused (RelationNotKept k)) = refl
-applied-told (applied.Refused (NotAMap m)) = refl
-applied-told (applied.Refused OddPairs) = refl
+applied-told (applied.Refused r) = refused-told (applied.Image (record { 0 = getD (refusal.numbers r) 1 0 }) ∷ []) applied.Refused r (omega arith)
 
 abbrev searchBy : List ℕ → Search
-searchBy l = getD (search.Found (getD l 1 0) ∷ search.None (getD l 1 0) ∷ search.Exhausted (getD l 1 0) ∷ []) (getD l 0 0) (search.Refused (refusalOf l))
+searchBy l = getD (search.Found (getD l 1 0) ∷ search.None (getD l 1 0) ∷ search.Exhausted (getD l 1 0) ∷ []) (numberOf l) (search.Refused (refusalOf l))
 
 pub search-told : (r : Search) → searchBy (found.numbers r) ≡ r
 search-told (search.Found u) = refl
 search-told (search.None u) = refl
 search-told (search.Exhausted u) = refl
-search-told (search.Refused (Malformed m f)) = refl
-search-told (search.Refused NoRoom) = refl
-search-told (search.Refused (NotCanonical m)) = refl
-search-told (search.Refused SignaturesDiffer) = refl
-search-told (search.Refused (UnknownElement p s)) = refl
-search-told (search.Refused (TypesDiffer p)) = refl
-search-told (search.Refused (ImageMissing e)) = refl
-search-told (search.Refused (ConflictingImages e)) = refl
-search-told (search.Refused (RelationNotKept k)) = refl
-search-told (search.Refused (NotAMap m)) = refl
-search-told (search.Refused OddPairs) = refl
+search-told (search.Refused r) =
+    let u = getD (refusal.numbers r) 1 0 in
+    refused-told (search.Found u ∷ search.None u ∷ search.Exhausted u ∷ []) search.Refused r (omega arith)
 
 -- so equal numbers are of one answer
 pub one-answer : (r q : Answer) → numbers r ≡ numbers q → r ≡ q

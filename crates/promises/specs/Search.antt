@@ -2,7 +2,6 @@
 use Prim.Native.Nat.{ℕ}
 use mathlib.Core.Path.{_≡_}
 use mathlib.Core.List.{List}
-use lib.ListN.{length}
 use Rattle.stored.specs.Model.{Model}
 use Rattle.stored.specs.Parse.{model, parse}
 use Rattle.search.specs.Partners.{partners, partnersOf}
