@@ -1,4 +1,4 @@
--- What the promises speak of and no lower crate defines: an isomorphism of two models, as find looks for it; the bound; what the calls of the search say and write.
+-- What the promises speak of and no lower crate defines: an isomorphism of two models, as find looks for it; the bound; what the calls say and write; the states of a search.
 pub mod Isomorphism
 pub mod Bound
 pub mod Calls
