@@ -1,4 +1,4 @@
--- The nine promises, one room each, in their order; `Laws` holds what several rooms need.
+-- The nine promises, one room each, in their order; `Laws` holds what several rooms need, `Answers` what follows from the first three.
 pub mod Laws
 pub mod Found
 pub mod None
@@ -9,3 +9,4 @@ pub mod Agrees
 pub mod Rounds
 pub mod Unique
 pub mod ProvedSet
+pub mod Answers

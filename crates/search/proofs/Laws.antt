@@ -10,6 +10,7 @@ pub mod Refine
 pub mod Outcome
 pub mod Answer
 pub mod Find
+pub mod Files
 pub mod Tables
 pub mod Machine
 pub mod Start
