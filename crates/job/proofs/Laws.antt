@@ -1,0 +1,4 @@
+pub mod Job
+pub mod Digits
+pub mod Line
+pub mod Found
