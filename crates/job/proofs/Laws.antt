@@ -1,3 +1,4 @@
+pub mod Reader
 pub mod Job
 pub mod Digits
 pub mod Line

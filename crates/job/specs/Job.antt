@@ -6,13 +6,11 @@ use mathlib.Core.List.{List, [], _∷_}
 use lib.ListN.{length}
 use lib.Dec.{eqb, leb}
 use Rattle.lists.specs.Part.{part}
-use Rattle.stored.specs.declared.field.Next.the-variants as next
-use Rattle.stored.specs.Field.{fieldAt}
-use Rattle.job.specs.declared.job.Value.{Value}
-use Rattle.job.specs.declared.job.Due.{Due}
-use Rattle.job.specs.declared.job.Due.the-variants.{There, Missing}
+use Rattle.job.specs.declared.reader.Value.{Value}
+use Rattle.job.specs.declared.reader.Due.the-variants.{There, Missing}
 use Rattle.job.specs.declared.job.Reading.{Reading}
 use Rattle.job.specs.declared.job.Reading.the-variants.{Job, Broken}
+use Rattle.job.specs.Reader.{dueAt}
 
 abbrev pub maxJob : ℕ
 maxJob = 8192
@@ -21,13 +19,6 @@ maxJob = 8192
 unfoldable pub highFirst : ℕ → List ℕ → ℕ
 highFirst n [] = n
 highFirst n (b ∷ bs) = highFirst (n * 256 + b) bs
-
--- the field at a place, if it has the tag that is due
-unfoldable pub dueAt : List ℕ → ℕ → ℕ → Due
-dueAt s tag at = elim (fieldAt s at) [
-  | next.Field t start len past ↦ elim (eqb t tag) [ true ↦ There (record { start = start; len = len }) (past .at) | false ↦ Missing ]
-  | next.Fault f ↦ Missing
-]
 
 -- "then End and nothing after"
 unfoldable pub endFrom : List ℕ → Value → Value → Value → ℕ → ℕ → Reading

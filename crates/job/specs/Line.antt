@@ -14,7 +14,7 @@ use Rattle.search.specs.declared.answer.Answer.the-variants as answer
 use Rattle.search.specs.Machine.{found, none, exhausted}
 use Rattle.search.specs.Answer.{Outcome, ended, refused, numbers, answerOf, workRoom}
 use Rattle.search.specs.Find.{findFiles}
-use Rattle.job.specs.declared.job.Value.{Value}
+use Rattle.job.specs.declared.reader.Value.{Value}
 use Rattle.job.specs.declared.job.Reading.{Reading}
 use Rattle.job.specs.declared.job.Reading.the-variants.{Job, Broken}
 use Rattle.job.specs.Job.{jobOf}

@@ -2,21 +2,10 @@
 ghost use Prim.Native.Nat.{_≤_};
 ghost use mathlib.Core.Path.{_≡_};
 ghost use lib.ListN.{length};
-ghost use Rattle.job.specs.Job.{highFirst, dueAt, endFrom, budgetFrom, pairsFrom, rightFrom, leftFrom, jobOf};
-use stored::field::Cursor;
-use stored::field::Next;
-
-// Where the value of a field stands: `len` bytes from `start`.
-pub struct Value {
-    pub start: usize,
-    pub len: usize,
-}
-
-// The field that is due at a place, with the place just past it; or another, or none.
-pub enum Due {
-    There { value: Value, past: usize },
-    Missing,
-}
+ghost use Rattle.job.specs.Job.{highFirst, endFrom, budgetFrom, pairsFrom, rightFrom, leftFrom, jobOf};
+use crate::reader::Due;
+use crate::reader::Value;
+use crate::reader::field_due;
 
 // What a job file holds.
 pub enum Reading {
@@ -42,30 +31,6 @@ const PAIRS: u8 = 0x12;
 
 const BUDGET: u8 = 0x13;
 
-// The field at a place, if it has the tag that is due.
-fn field_due(job: &[u8], tag: u8, at: usize) -> Due
-    ensures { λ r. ⌜ r ≡ dueAt (now (job .entry)) tag at ⌝ }
-{
-    let cursor = Cursor { at };
-    match cursor.field(job) {
-        Next::Field {
-            tag: found,
-            start,
-            len,
-            next,
-        } => {
-            if found != tag {
-                return Due::Missing;
-            }
-            Due::There {
-                value: Value { start, len },
-                past: next.at,
-            }
-        }
-        Next::Fault(_) => Due::Missing,
-    }
-}
-
 // Eight bytes or fewer as a number, high byte first.
 fn number(bytes: &[u8]) -> u64
     requires { ⌜ length (now bytes) ≤ 8 ⌝ }
@@ -84,7 +49,7 @@ fn number(bytes: &[u8]) -> u64
 fn read_end(job: &[u8], left: Value, right: Value, pairs: Value, budget: u64, at: usize) -> Reading
     ensures { λ r. ⌜ r ≡ endFrom (now (job .entry)) left right pairs budget at ⌝ }
 {
-    match field_due(job, END, at) {
+    match field_due(job, at, END) {
         Due::There { value, past } => {
             if value.len != 0 {
                 return Reading::Broken;
@@ -107,7 +72,7 @@ fn read_end(job: &[u8], left: Value, right: Value, pairs: Value, budget: u64, at
 fn read_budget(job: &[u8], left: Value, right: Value, pairs: Value, at: usize) -> Reading
     ensures { λ r. ⌜ r ≡ budgetFrom (now (job .entry)) left right pairs at ⌝ }
 {
-    match field_due(job, BUDGET, at) {
+    match field_due(job, at, BUDGET) {
         Due::There { value, past } => {
             if value.len != 8 {
                 return Reading::Broken;
@@ -124,7 +89,7 @@ fn read_budget(job: &[u8], left: Value, right: Value, pairs: Value, at: usize) -
 fn read_pairs(job: &[u8], left: Value, right: Value, at: usize) -> Reading
     ensures { λ r. ⌜ r ≡ pairsFrom (now (job .entry)) left right at ⌝ }
 {
-    match field_due(job, PAIRS, at) {
+    match field_due(job, at, PAIRS) {
         Due::There { value, past } => read_budget(job, left, right, value, past),
         Due::Missing => Reading::Broken,
     }
@@ -134,7 +99,7 @@ fn read_pairs(job: &[u8], left: Value, right: Value, at: usize) -> Reading
 fn read_right(job: &[u8], left: Value, at: usize) -> Reading
     ensures { λ r. ⌜ r ≡ rightFrom (now (job .entry)) left at ⌝ }
 {
-    match field_due(job, RIGHT, at) {
+    match field_due(job, at, RIGHT) {
         Due::There { value, past } => read_pairs(job, left, value, past),
         Due::Missing => Reading::Broken,
     }
@@ -144,7 +109,7 @@ fn read_right(job: &[u8], left: Value, at: usize) -> Reading
 fn read_left(job: &[u8], at: usize) -> Reading
     ensures { λ r. ⌜ r ≡ leftFrom (now (job .entry)) at ⌝ }
 {
-    match field_due(job, LEFT, at) {
+    match field_due(job, at, LEFT) {
         Due::There { value, past } => read_right(job, value, past),
         Due::Missing => Reading::Broken,
     }

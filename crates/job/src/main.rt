@@ -5,6 +5,7 @@
 mod answer;
 mod job;
 mod line;
+mod reader;
 
 ghost use mathlib.Core.Path.{_≡_};
 ghost use lib.ListN.{length};

@@ -25,7 +25,7 @@ use Rattle.search.proofs.Laws.Answer.{written-found, numbers-found, found-by, n
 use Rattle.search.proofs.Theorems.Decides.{files-found}
 use Rattle.io.specs.Counts.{Counts}
 use Rattle.io.proofs.Counting.{counts}
-use Rattle.job.specs.declared.job.Value.{Value}
+use Rattle.job.specs.declared.reader.Value.{Value}
 use Rattle.job.specs.declared.job.Reading.the-variants.{Job, Broken}
 use Rattle.job.specs.Job.{jobOf}
 use Rattle.job.specs.Line.{lineWith, mapFound, mapRoom, foundLine, answerTo, lineOf, Entries}

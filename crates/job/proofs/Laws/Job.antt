@@ -1,4 +1,4 @@
--- The laws of a job: the field that is due, each step of the reading by what is due there, that values lie within the job, and a number's bytes. Assumes nothing.
+-- The laws of a job: each step of the reading by what is due there, that values lie within the job, and a number's bytes. Assumes nothing.
 use Prim.Native.Nat.{ℕ, _+_, _*_, _-_, _^_, _≤_, _<_}
 use mathlib.Core.Path.{_≡_, refl, sym, _∙_, ap, subst}
 use mathlib.Core.Logic.{by-cases}
@@ -12,46 +12,14 @@ use borrow.Author.Tests.{eq-eqb, ne-eqb, le-leb, lt-leb}
 use lib.ListN.{length, getD, drop, drop-of-length-le}
 use lib.Seq.{drop-cons}
 use Rattle.lists.specs.Part.{part}
-use Rattle.stored.specs.declared.refusal.Fault.{Fault}
-use Rattle.stored.specs.declared.field.Cursor.{Cursor}
-use Rattle.stored.specs.declared.field.Next.{Next}
-use Rattle.stored.specs.declared.field.Next.the-variants as next
-use Rattle.stored.specs.Field.{fieldAt}
-use Rattle.stored.proofs.Laws.Field.{field-within}
-use Rattle.job.specs.declared.job.Value.{Value}
-use Rattle.job.specs.declared.job.Due.{Due}
-use Rattle.job.specs.declared.job.Due.the-variants.{There, Missing}
+use Rattle.job.specs.declared.reader.Value.{Value}
+use Rattle.job.specs.declared.reader.Due.{Due}
+use Rattle.job.specs.declared.reader.Due.the-variants.{There, Missing}
 use Rattle.job.specs.declared.job.Reading.{Reading}
 use Rattle.job.specs.declared.job.Reading.the-variants.{Job, Broken}
-use Rattle.job.specs.Job.{maxJob, highFirst, dueAt, endFrom, budgetFrom, pairsFrom, rightFrom, leftFrom, jobOf}
-
--- the field that is due
-module _ (s : List ℕ) (tag at : ℕ) where
-  pub due-there : (t start len : ℕ) (past : Cursor) → fieldAt s at ≡ next.Field t start len past → t ≡ tag → dueAt s tag at ≡ There (record { start = start; len = len }) (past .at)
-  unfolding dueAt
-  due-there t start len past e q = rw (e, dueAt, eq-eqb t tag q)
-
-  pub due-other : (t start len : ℕ) (past : Cursor) → fieldAt s at ≡ next.Field t start len past → (t ≡ tag → ⊥) → dueAt s tag at ≡ Missing
-  unfolding dueAt
-  due-other t start len past e q = rw (e, dueAt, ne-eqb t tag q)
-
-  pub due-fault : (f : Fault) → fieldAt s at ≡ next.Fault f → dueAt s tag at ≡ Missing
-  unfolding dueAt
-  due-fault f e = rw (e, dueAt)
-
-  pub due-inside : (v : Value) (past : ℕ) → dueAt s tag at ≡ There v past → v .start + v .len ≤ length s
-  due-inside v past e = by-field (fieldAt s at) refl
-    where
-      by-field : (n : Next) → fieldAt s at ≡ n → v .start + v .len ≤ length s
-      by-field (next.Fault f) q = let w = due-fault f q in let z : _≡_ {A = ℕ} 0 1 = cc in absurd (omega arith)
-      by-field (next.Field t start len p) q =
-          by-cases (ℕ-discrete t tag)
-          (λ h.
-          let w = due-there t start len p q h in
-          let a : start ≡ v .start = cc in
-          let b : len ≡ v .len = cc in
-          omega (arith, field-within s at t start len p q .inside))
-          (λ h. let w = due-other t start len p q h in let z : _≡_ {A = ℕ} 0 1 = cc in absurd (omega arith))
+use Rattle.job.specs.Reader.{dueAt}
+use Rattle.job.specs.Job.{maxJob, highFirst, endFrom, budgetFrom, pairsFrom, rightFrom, leftFrom, jobOf}
+use Rattle.job.proofs.Laws.Reader.{due-inside}
 
 -- End
 module _ (s : List ℕ) (left right pairs : Value) (budget at : ℕ) where

@@ -2,7 +2,8 @@
 use mathlib.Core.Path.{sym, _∙_}
 use native.Mathlib.Omega.{arith}
 use borrow.Author.Needs.{needs}
-use Rattle.job.proofs.Laws.Job.{due-inside, budget-missing, budget-long, budget-read}
+use Rattle.job.proofs.Laws.Reader.{due-inside}
+use Rattle.job.proofs.Laws.Job.{budget-missing, budget-long, budget-read}
 use Rattle.job.proofs.job.read_budget.Statement.{statement}
 use Rattle.job.proofs.job.read_budget.Tie as tie
 

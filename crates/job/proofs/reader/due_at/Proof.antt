@@ -1,9 +1,9 @@
--- `job::job::field_due` meets its contract: each return is one case of `dueAt`. Assumes nothing.
+-- `job::reader::due_at` meets its contract: each return is one case of `dueAt`. Assumes nothing.
 use mathlib.Core.Path.{sym, _∙_}
 use borrow.Author.Needs.{needs}
-use Rattle.job.proofs.Laws.Job.{due-there, due-other, due-fault}
-use Rattle.job.proofs.job.field_due.Statement.{statement}
-use Rattle.job.proofs.job.field_due.Tie as tie
+use Rattle.job.proofs.Laws.Reader.{due-there, due-other, due-fault}
+use Rattle.job.proofs.reader.due_at.Statement.{statement}
+use Rattle.job.proofs.reader.due_at.Tie as tie
 
 field-requires : tie.Need-field-requires
 field-requires c κs = search needs
@@ -27,8 +27,8 @@ returns-2 c =
 returns-3 : tie.Need-returns-3
 returns-3 c = sym (due-fault _ _ _ _ (sym (c .before .before .field .ensures) ∙ c .enum-told .given .1))
 
-pub field-due-spec : {M : Type 1} → statement M
-field-due-spec =
+pub due-at-spec : {M : Type 1} → statement M
+due-at-spec =
     tie.close
     (tie.spec
     field-requires
