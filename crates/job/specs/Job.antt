@@ -1,5 +1,6 @@
 -- "Standard input holding 10 left, 11 right, 12 pairs, 13 eight-byte budget (high byte first), then End and nothing after, each once in this order, at most
--- 8,192 bytes; anything else is 21." Tags are hexadecimal. Each step below reads one field and goes on with the next; `jobOf` is the first.
+-- 8,192 bytes; anything else is 21." The tags are hexadecimal: 10 to 13 are 16 to 19 here. Each step below reads one
+-- field and goes on with the next; `jobOf` is the first of them.
 use Prim.Native.Nat.{ℕ, _+_, _*_}
 use mathlib.Core.Bool.{true, false, _&&_}
 use mathlib.Core.List.{List, [], _∷_}

@@ -1,16 +1,10 @@
 -- "It prints one line: the number, the carried values, on 0 the map, `-` for 255." Numbers are in decimal, with single spaces between them, and the line ends
 -- with one line feed. The line is bytes: 10 is the line feed, 32 the space, 45 `-`, and 48 `0`.
 use Prim.Native.Nat.{ℕ, zero, suc, _+_, _/_, _%_}
-use mathlib.Core.Path.{_≡_}
 use mathlib.Core.Bool.{true, false}
 use mathlib.Core.List.{List, [], _∷_, _++_, map}
-use lib.ListN.{length, take}
 use lib.Dec.{eqb, ltb}
 use Rattle.lists.specs.Part.{part}
-use Rattle.stored.specs.Model.{size}
-use Rattle.stored.specs.Reading.{modelOf, Holds}
-use Rattle.search.specs.declared.answer.Answer.{Answer}
-use Rattle.search.specs.declared.answer.Answer.the-variants as answer
 use Rattle.search.specs.Machine.{found, none, exhausted}
 use Rattle.search.specs.Answer.{Outcome, ended, refused, numbers, answerOf, workRoom}
 use Rattle.search.specs.Find.{findFiles}
@@ -19,7 +13,7 @@ use Rattle.job.specs.declared.job.Reading.{Reading}
 use Rattle.job.specs.declared.job.Reading.the-variants.{Job, Broken}
 use Rattle.job.specs.Job.{jobOf}
 
--- the digits of a number below the fuel
+-- the digits of a number that is below the fuel
 unfoldable pub digitsOf : ℕ → ℕ → List ℕ
 digitsOf zero n = []
 digitsOf (suc fuel) n = elim (ltb n 10) [ true ↦ (48 + n) ∷ [] | false ↦ digitsOf fuel (n / 10) ++ ((48 + n % 10) ∷ []) ]
@@ -52,10 +46,6 @@ mapFound (ended (none u)) = []
 mapFound (ended (exhausted u)) = []
 mapFound (refused r) = []
 
--- room for the map of 64 elements
-abbrev pub mapRoom : ℕ
-mapRoom = 64
-
 -- the line of a call of find with pairs
 unfoldable pub foundLine : Outcome → List ℕ
 foundLine o = lineWith (numbers (answerOf o)) (mapFound o)
@@ -64,6 +54,10 @@ foundLine o = lineWith (numbers (answerOf o)) (mapFound o)
 abbrev pub valueIn : List ℕ → Value → List ℕ
 valueIn s v = part s (v .start) (v .len)
 
+-- find has room for the map of 64 elements, and all the work it needs
+abbrev pub mapRoom : ℕ
+mapRoom = 64
+
 -- the line that answers a job; 21 "job file broken (program)"
 unfoldable pub answerTo : List ℕ → Reading → List ℕ
 answerTo s (Job left right pairs budget) = foundLine (findFiles (valueIn s left) (valueIn s right) (valueIn s pairs) budget mapRoom workRoom)
@@ -71,19 +65,3 @@ answerTo s Broken = lineWith (21 ∷ []) []
 
 unfoldable pub lineOf : List ℕ → List ℕ
 lineOf s = answerTo s (jobOf s)
-
--- What the functions that write a line say: up to r the line holds what it held up to a place, then a text.
-pub record Added (line : List ℕ) (at : ℕ) (text : List ℕ) (r : ℕ) (after : List ℕ) : Type 0 where
-  pub ends : r ≡ at + length text
-  pub holds : take r after ≡ take at line ++ text
-
--- how many entries the map of an answer has, by the file of the left model
-abbrev pub Entries : Answer → List ℕ → ℕ → Type 0
-Entries (answer.Found u) left n = Holds left → n ≡ size (modelOf left)
-Entries (answer.None u) left n = n ≡ 0
-Entries (answer.Exhausted u) left n = n ≡ 0
-Entries (answer.Refused r) left n = n ≡ 0
-
--- no line is longer
-abbrev pub lineRoom : ℕ
-lineRoom = 1408

@@ -9,7 +9,8 @@ ghost use Rattle.stored.specs.Model.{size};
 ghost use Rattle.search.specs.Answer.{numbers, workRoom};
 ghost use Rattle.search.specs.Find.{findFiles};
 ghost use Rattle.io.specs.Counts.{Counts};
-ghost use Rattle.job.specs.Line.{Entries, listed, lineWith, foundLine, lineOf, mapRoom, lineRoom, Added};
+ghost use Rattle.job.specs.Line.{listed, lineWith, foundLine, lineOf, mapRoom};
+ghost use Rattle.job.specs.Writing.{Entries, lineRoom, Added, numbersRoom};
 use crate::job::Reading;
 use crate::job::read_job;
 use crate::line::put;
@@ -30,18 +31,18 @@ pub struct Line {
 
 // A number that carries nothing, at the start of a line.
 fn put_one(line: &mut [u8], number: u64) -> usize
-    requires { ⌜ 62 ≤ length (now line) ⌝ }
+    requires { ⌜ numbersRoom ≤ length (now line) ⌝ }
     ensures added { λ r. ⌜ Added (now (line .entry)) 0 (listed (number ∷ [])) r (now (line .exit)) ⌝ }
-    ensures short { λ r. ⌜ r ≤ 62 ⌝ }
+    ensures short { λ r. ⌜ r ≤ numbersRoom ⌝ }
 {
     put_number(line, 0, number)
 }
 
 // A number that carries one value.
 fn put_two(line: &mut [u8], number: u64, value: u64) -> usize
-    requires { ⌜ 62 ≤ length (now line) ⌝ }
+    requires { ⌜ numbersRoom ≤ length (now line) ⌝ }
     ensures added { λ r. ⌜ Added (now (line .entry)) 0 (listed (number ∷ value ∷ [])) r (now (line .exit)) ⌝ }
-    ensures short { λ r. ⌜ r ≤ 62 ⌝ }
+    ensures short { λ r. ⌜ r ≤ numbersRoom ⌝ }
 {
     let at = put_number(line, 0, number);
     put_value(line, at, value)
@@ -49,9 +50,9 @@ fn put_two(line: &mut [u8], number: u64, value: u64) -> usize
 
 // A number that carries two values.
 fn put_three(line: &mut [u8], number: u64, value: u64, other: u64) -> usize
-    requires { ⌜ 62 ≤ length (now line) ⌝ }
+    requires { ⌜ numbersRoom ≤ length (now line) ⌝ }
     ensures added { λ r. ⌜ Added (now (line .entry)) 0 (listed (number ∷ value ∷ other ∷ [])) r (now (line .exit)) ⌝ }
-    ensures short { λ r. ⌜ r ≤ 62 ⌝ }
+    ensures short { λ r. ⌜ r ≤ numbersRoom ⌝ }
 {
     let at = put_number(line, 0, number);
     let next = put_value(line, at, value);
@@ -60,9 +61,9 @@ fn put_three(line: &mut [u8], number: u64, value: u64, other: u64) -> usize
 
 // The number of a refusal, and the values it carries.
 fn put_refusal(line: &mut [u8], refusal: Refusal) -> usize
-    requires { ⌜ 62 ≤ length (now line) ⌝ }
+    requires { ⌜ numbersRoom ≤ length (now line) ⌝ }
     ensures added { λ r. ⌜ Added (now (line .entry)) 0 (listed (refusalNumbers refusal)) r (now (line .exit)) ⌝ }
-    ensures short { λ r. ⌜ r ≤ 62 ⌝ }
+    ensures short { λ r. ⌜ r ≤ numbersRoom ⌝ }
 {
     match refusal {
         Refusal::Malformed { model, fault } => put_three(
@@ -86,9 +87,9 @@ fn put_refusal(line: &mut [u8], refusal: Refusal) -> usize
 
 // The number of an answer, and the values it carries.
 fn put_answer(line: &mut [u8], answer: Answer) -> usize
-    requires { ⌜ 62 ≤ length (now line) ⌝ }
+    requires { ⌜ numbersRoom ≤ length (now line) ⌝ }
     ensures added { λ r. ⌜ Added (now (line .entry)) 0 (listed (numbers answer)) r (now (line .exit)) ⌝ }
-    ensures short { λ r. ⌜ r ≤ 62 ⌝ }
+    ensures short { λ r. ⌜ r ≤ numbersRoom ⌝ }
 {
     match answer {
         Answer::Found(units) => put_two(line, 0, units),

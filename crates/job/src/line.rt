@@ -3,7 +3,8 @@ ghost use Prim.Native.Nat.{_≤_, _+_, _*_};
 ghost use mathlib.Core.Path.{_≡_};
 ghost use mathlib.Core.List.{_∷_, map as mapped};
 ghost use lib.ListN.{length};
-ghost use Rattle.job.specs.Line.{decimal, entry, spaced, Added};
+ghost use Rattle.job.specs.Line.{decimal, entry, spaced};
+ghost use Rattle.job.specs.Writing.{Added};
 
 // Bytes.
 pub(crate) fn put(line: &mut [u8], at: usize, bytes: &[u8]) -> usize

@@ -28,7 +28,8 @@ use Rattle.io.proofs.Counting.{counts}
 use Rattle.job.specs.declared.reader.Value.{Value}
 use Rattle.job.specs.declared.job.Reading.the-variants.{Job, Broken}
 use Rattle.job.specs.Job.{jobOf}
-use Rattle.job.specs.Line.{lineWith, mapFound, mapRoom, foundLine, answerTo, lineOf, Entries}
+use Rattle.job.specs.Line.{lineWith, mapFound, mapRoom, foundLine, answerTo, lineOf}
+use Rattle.job.specs.Writing.{Entries}
 
 -- a refusal's number is not 0
 refusal-number : (r : Refusal) → getD (refusal.numbers r) 0 0 ≡ 0 → ⊥

@@ -9,7 +9,8 @@ use native.Mathlib.Decide.{decLe}
 use borrow.Author.Tests.{eq-eqb, ne-eqb}
 use lib.ListN.{length, getD, take, drop, set, length-append, length-set, drop-of-length-le}
 use lib.Seq.{drop-cons, take-suc, take-suc-set, take-all, length-take-le}
-use Rattle.job.specs.Line.{decimal, entry, spaced, listed, lineWith, Added}
+use Rattle.job.specs.Line.{decimal, entry, spaced, listed, lineWith}
+use Rattle.job.specs.Writing.{Added, numbersRoom}
 
 module _ {line : List ℕ} {at : ℕ} {text : List ℕ} {r : ℕ} {after : List ℕ} (a : Added line at text r after) where
   -- a text behind another
@@ -142,6 +143,10 @@ module _ (n : ℕ) where
   pub listed-three : (v w : ℕ) → decimal n ++ ((32 ∷ decimal v) ++ (32 ∷ decimal w)) ≡ listed (n ∷ v ∷ w ∷ [])
   unfolding listed spaced
   listed-three v w = ap (λ (xs : List ℕ). decimal n ++ ((32 ∷ decimal v) ++ (32 ∷ xs))) (sym (append-nil (decimal w)))
+
+-- numbers that are known by another name
+pub added-numbers : {line : List ℕ} {r : ℕ} {after : List ℕ} (text same : List ℕ) → text ≡ same → Added line 0 text r after × (r ≤ numbersRoom) → Added line 0 same r after × (r ≤ numbersRoom)
+added-numbers text same e a = (added-as (a .0) e, a .1)
 
 -- the line
 pub line-whole : (ns f : List ℕ) → listed ns ++ (spaced (map entry f) ++ (10 ∷ [])) ≡ lineWith ns f

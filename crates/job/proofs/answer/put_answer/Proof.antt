@@ -1,18 +1,12 @@
 -- `job::answer::put_answer` meets its contract: in each arm, what the call ensures against the definition at that answer. Assumes nothing.
-use Prim.Native.Nat.{ℕ, _≤_}
-use mathlib.Core.Path.{_≡_, sym, ap}
-use mathlib.Core.List.{List}
+use mathlib.Core.Path.{sym, ap}
 use borrow.Author.Needs.{needs}
 use Rattle.search.specs.declared.answer.Answer.{Answer}
 use Rattle.search.specs.Answer.{numbers}
-use Rattle.job.specs.Line.{listed, Added}
-use Rattle.job.proofs.Laws.Line.{added-as}
+use Rattle.job.specs.Line.{listed}
+use Rattle.job.proofs.Laws.Line.{added-numbers}
 use Rattle.job.proofs.answer.put_answer.Statement.{statement}
 use Rattle.job.proofs.answer.put_answer.Tie as tie
-
-module _ {line : List ℕ} {r : ℕ} {after : List ℕ} (text same : List ℕ) where
-  as-numbers : text ≡ same → Added line 0 text r after × (r ≤ 62) → Added line 0 same r after × (r ≤ 62)
-  as-numbers e a = (added-as (a .0) e, a .1)
 
 enum-known-answer : tie.Need-enum-known-answer
 enum-known-answer c = search needs
@@ -42,25 +36,25 @@ same-length : tie.Need-same-length
 same-length c = c .before .before .put-two .kept .0
 
 returns : tie.Need-returns
-returns c = as-numbers _ _ (sym (ap (λ (a : Answer). listed (numbers a)) (c .before .before .before .before .before .answer .given .1))) (c .before .before .put-two .ensures)
+returns c = added-numbers _ _ (sym (ap (λ (a : Answer). listed (numbers a)) (c .before .before .before .before .before .answer .given .1))) (c .before .before .put-two .ensures)
 
 same-length-2 : tie.Need-same-length-2
 same-length-2 c = c .before .before .put-two2 .kept .0
 
 returns-2 : tie.Need-returns-2
-returns-2 c = as-numbers _ _ (sym (ap (λ (a : Answer). listed (numbers a)) (c .before .before .before .before .before .answer2 .given .1))) (c .before .before .put-two2 .ensures)
+returns-2 c = added-numbers _ _ (sym (ap (λ (a : Answer). listed (numbers a)) (c .before .before .before .before .before .answer2 .given .1))) (c .before .before .put-two2 .ensures)
 
 same-length-3 : tie.Need-same-length-3
 same-length-3 c = c .before .before .put-two3 .kept .0
 
 returns-3 : tie.Need-returns-3
-returns-3 c = as-numbers _ _ (sym (ap (λ (a : Answer). listed (numbers a)) (c .before .before .before .before .before .answer3 .given .1))) (c .before .before .put-two3 .ensures)
+returns-3 c = added-numbers _ _ (sym (ap (λ (a : Answer). listed (numbers a)) (c .before .before .before .before .before .answer3 .given .1))) (c .before .before .put-two3 .ensures)
 
 same-length-4 : tie.Need-same-length-4
 same-length-4 c = c .before .before .put-refusal .kept .0
 
 returns-4 : tie.Need-returns-4
-returns-4 c = as-numbers _ _ (sym (ap (λ (a : Answer). listed (numbers a)) (c .before .before .before .before .before .answer4 .given .1))) (c .before .before .put-refusal .ensures)
+returns-4 c = added-numbers _ _ (sym (ap (λ (a : Answer). listed (numbers a)) (c .before .before .before .before .before .answer4 .given .1))) (c .before .before .put-refusal .ensures)
 
 pub put-answer-spec : {M : Type 1} → statement M
 put-answer-spec =
