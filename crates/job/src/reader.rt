@@ -1,8 +1,9 @@
 // A reader of fields: it holds the bytes of a job and its place in them.
 //
-// `new` and `next` are over the struct; `next` takes it apart and leaves the work to `due_at`, which asks the cursor of `stored`. Callers use
-// `field_due`, which has plain parameters.
+// `new` and `next` are over the struct: `next` takes it apart and asks the cursor of `stored`. `field_at`, above them, has plain parameters, and
+// serves every other caller.
 ghost use mathlib.Core.Path.{_≡_};
+ghost use Rattle.stored.specs.Field.{fieldAt};
 ghost use Rattle.job.specs.Reader.{dueAt};
 use stored::field::Cursor;
 use stored::field::Next;
@@ -25,12 +26,33 @@ pub struct Reader<'a> {
     pub at: usize,
 }
 
-// The field at a place, if it has the tag that is due.
-fn due_at(src: &[u8], at: usize, tag: u8) -> Due
+// A reader at a place of some bytes.
+fn new<'a>(src: &'a [u8], at: usize) -> Reader<'a>
+    ensures { λ r. ⌜ (r .src ≡ src .entry) × (r .at ≡ at) ⌝ }
+{
+    Reader { src, at }
+}
+
+// The field at the reader's place.
+fn next<'a>(r: Reader<'a>) -> Next
+    ensures { λ n. ⌜ n ≡ fieldAt (now (r .entry .src)) (r .entry .at) ⌝ }
+{
+    let cursor = Cursor { at: r.at };
+    cursor.field(r.src)
+}
+
+// The field at a place of some bytes.
+fn field_at(src: &[u8], at: usize) -> Next
+    ensures { λ n. ⌜ n ≡ fieldAt (now (src .entry)) at ⌝ }
+{
+    next(new(src, at))
+}
+
+// The field at a place of some bytes, if it has the tag that is due.
+pub(crate) fn field_due(src: &[u8], at: usize, tag: u8) -> Due
     ensures { λ r. ⌜ r ≡ dueAt (now (src .entry)) tag at ⌝ }
 {
-    let cursor = Cursor { at };
-    match cursor.field(src) {
+    match field_at(src, at) {
         Next::Field {
             tag: found,
             start,
@@ -47,25 +69,4 @@ fn due_at(src: &[u8], at: usize, tag: u8) -> Due
         }
         Next::Fault(_) => Due::Missing,
     }
-}
-
-// A reader at a place of some bytes.
-fn new<'a>(src: &'a [u8], at: usize) -> Reader<'a>
-    ensures { λ r. ⌜ (r .src ≡ src .entry) × (r .at ≡ at) ⌝ }
-{
-    Reader { src, at }
-}
-
-// The field at the reader's place, if it has the tag that is due.
-fn next<'a>(r: Reader<'a>, tag: u8) -> Due
-    ensures { λ d. ⌜ d ≡ dueAt (now (r .entry .src)) tag (r .entry .at) ⌝ }
-{
-    due_at(r.src, r.at, tag)
-}
-
-// The field at a place of some bytes, if it has the tag that is due.
-pub(crate) fn field_due(src: &[u8], at: usize, tag: u8) -> Due
-    ensures { λ d. ⌜ d ≡ dueAt (now (src .entry)) tag at ⌝ }
-{
-    next(new(src, at), tag)
 }
