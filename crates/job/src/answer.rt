@@ -190,13 +190,19 @@ fn write_line(line: &mut [u8], job: &[u8]) -> usize
             pairs,
             budget,
         } => {
-            let a = left.start;
-            let b = a + left.len;
-            let c = right.start;
-            let d = c + right.len;
-            let e = pairs.start;
-            let f = e + pairs.len;
-            write_find(line, &job[a..b], &job[c..d], &job[e..f], budget)
+            let left_start = left.start;
+            let left_end = left_start + left.len;
+            let right_start = right.start;
+            let right_end = right_start + right.len;
+            let pairs_start = pairs.start;
+            let pairs_end = pairs_start + pairs.len;
+            write_find(
+                line,
+                &job[left_start..left_end],
+                &job[right_start..right_end],
+                &job[pairs_start..pairs_end],
+                budget,
+            )
         }
         Reading::Broken => write_broken(line),
     }

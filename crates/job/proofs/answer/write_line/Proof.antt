@@ -14,18 +14,18 @@ read-job-requires c κs = search needs
 enum-known-left : tie.Need-enum-known-left
 enum-known-left c = search needs
 
-add-b : tie.Need-add-b
-add-b c =
+add-left-end : tie.Need-add-left-end
+add-left-end c =
     let l = c .before .before in
     omega (arith, job-within _ _ _ _ _ (sym (l .before .before .read-job .ensures) ∙ l .left .given .1))
 
-add-d : tie.Need-add-d
-add-d c =
+add-right-end : tie.Need-add-right-end
+add-right-end c =
     let l = c .before .before .before in
     omega (arith, job-within _ _ _ _ _ (sym (l .before .before .read-job .ensures) ∙ l .left .given .1))
 
-add-f : tie.Need-add-f
-add-f c =
+add-pairs-end : tie.Need-add-pairs-end
+add-pairs-end c =
     let l = c .before .before .before .before in
     omega (arith, job-within _ _ _ _ _ (sym (l .before .before .read-job .ensures) ∙ l .left .given .1))
 
@@ -91,9 +91,9 @@ write-line-spec =
     (tie.spec
     read-job-requires
     enum-known-left
-    add-b
-    add-d
-    add-f
+    add-left-end
+    add-right-end
+    add-pairs-end
     sub-write-find
     part-write-find-start
     part-write-find-end
