@@ -10,7 +10,6 @@ use Rattle.stored.specs.declared.refusal.Fault.{Fault}
 use Rattle.stored.specs.declared.read.Reading.{Reading}
 use Rattle.stored.specs.declared.read.Answer.the-variants as parsed
 use Rattle.stored.specs.declared.refusal.Refusal.{Refusal}
-use Rattle.stored.specs.declared.refusal.Refusal.the-variants.{Malformed, NoRoom, NotCanonical, SignaturesDiffer, UnknownElement, TypesDiffer, ImageMissing, ConflictingImages, RelationNotKept, NotAMap, OddPairs}
 use Rattle.stored.specs.Refusal as refusal
 use Rattle.stored.specs.Model.{Model, size}
 use Rattle.stored.specs.Parse.{model, parse}
@@ -21,7 +20,7 @@ use Rattle.search.specs.declared.answer.Answer.the-variants as answer
 use Rattle.search.specs.Machine.{found, none, exhausted}
 use Rattle.search.specs.Answer.{numbers, Outcome, ended, refused, answerOf, written, workRoom}
 use Rattle.search.specs.Find.{findFiles}
-use Rattle.search.proofs.Laws.Answer.{written-found, numbers-found, found-by, none-by, exhausted-by}
+use Rattle.search.proofs.Laws.Answer.{refusal-high, written-found, numbers-found, found-by, none-by, exhausted-by}
 use Rattle.search.proofs.Theorems.Decides.{files-found}
 use Rattle.io.specs.Counts.{Counts}
 use Rattle.io.proofs.Counting.{counts}
@@ -30,20 +29,6 @@ use Rattle.job.specs.declared.job.Reading.the-variants.{Job, Broken}
 use Rattle.job.specs.Job.{jobOf}
 use Rattle.job.specs.Line.{lineWith, mapFound, mapRoom, foundLine, answerTo, lineOf}
 use Rattle.job.specs.Writing.{Entries}
-
--- a refusal's number is not 0
-refusal-number : (r : Refusal) → getD (refusal.numbers r) 0 0 ≡ 0 → ⊥
-refusal-number (Malformed m f) e = omega arith
-refusal-number NoRoom e = omega arith
-refusal-number (NotCanonical m) e = omega arith
-refusal-number SignaturesDiffer e = omega arith
-refusal-number (UnknownElement p s) e = omega arith
-refusal-number (TypesDiffer p) e = omega arith
-refusal-number (ImageMissing x) e = omega arith
-refusal-number (ConflictingImages x) e = omega arith
-refusal-number (RelationNotKept k) e = omega arith
-refusal-number (NotAMap m) e = omega arith
-refusal-number OddPairs e = omega arith
 
 -- the map of an outcome
 map-of-found : (u : ℕ) (f : List ℕ) → mapFound (ended (found u f)) ≡ f
@@ -60,7 +45,7 @@ map-of-exhausted u = refl
 
 map-of-refusal : (o : Outcome) (r : Refusal) → refusal.numbers r ≡ numbers (answerOf o) → mapFound o ≡ []
 unfolding mapFound
-map-of-refusal (ended (found u f)) r e = absurd (refusal-number r (ap (λ (l : List ℕ). getD l 0 0) (e ∙ numbers-found u f)))
+map-of-refusal (ended (found u f)) r e = absurd (omega (arith, refusal-high r, ap (λ (l : List ℕ). getD l 0 0) (e ∙ numbers-found u f)))
 map-of-refusal (ended (none u)) r e = refl
 map-of-refusal (ended (exhausted u)) r e = refl
 map-of-refusal (refused q) r e = refl

@@ -37,10 +37,11 @@ unfolding answerOf
 numbers-exhausted u = refl
 
 -- the number itself stands first
-abbrev first : List ℕ → ℕ
+abbrev pub first : List ℕ → ℕ
 first l = getD l 0 0
 
-refusal-high : (r : Refusal) → 10 ≤ first (refusal.numbers r)
+-- a refusal's number is 10 or more
+pub refusal-high : (r : Refusal) → 10 ≤ first (refusal.numbers r)
 refusal-high (Malformed m f) = omega arith
 refusal-high NoRoom = omega arith
 refusal-high (NotCanonical m) = omega arith
