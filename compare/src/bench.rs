@@ -1,0 +1,212 @@
+//! The same scenes on both sides, timed in one run.
+//!
+//! The original's models are built before the clock starts; the port starts from bytes. Maps and pair lists are arguments of a call: bytes for the port, pairs
+//! of elements for the original, which makes its maps by `ModelHom::new` within the time. The two sides take turns, and the least time of each counts.
+use crate::call::{Call, Lent};
+use crate::calls::ample;
+use crate::expected;
+use crate::file::{File, Meaning};
+use crate::models::families::{bare, cfi, cube, ears, k33, k4, paley, prescription, rings, rook, shrikhande};
+use crate::models::random::full;
+use crate::models::{renumbered, renumbering, shuffled};
+use crate::port::Port;
+use crate::random::Random;
+use crate::stored::Stored;
+use original::{find_isomorphism, find_isomorphism_under, find_with_fixed_pairs, Element, Fuel, ModelHom};
+use std::hint::black_box;
+use std::time::{Duration, Instant};
+
+/// How long a scene is timed, and how many turns it has at least.
+const TIME: Duration = Duration::from_secs(3);
+const TURNS: u32 = 5;
+
+pub fn run() {
+    println!("{:42} {:>14} {:>14} {:>7}", "scene", "original (ns)", "port (ns)", "ratio");
+    let mut table = Table {
+        port: Port::new(),
+        slowest: None,
+    };
+    let mut random = Random::new(41);
+    for (name, left, right) in searches(&mut random) {
+        table.find(name, &File::of(&left), &File::of(&right));
+    }
+    table.ears(&mut random);
+    table.maps(&mut random);
+    let (ratio, name) = table.slowest.expect("a scene");
+    println!("slowest ratio {ratio:.1} ({name})");
+}
+
+/// The models of the scenes of find.
+fn searches(random: &mut Random) -> Vec<(&'static str, Stored, Stored)> {
+    let same = [
+        ("prescription of 50 elements", prescription()),
+        ("ring of 64", rings(&[64])),
+        ("64 elements without rows", bare(64)),
+        ("random, 2,048 cells, arity 2", full(2, random)),
+        ("random, 2,048 cells, arity 8", full(8, random)),
+        ("Paley 29", paley(29)),
+        ("Paley 37", paley(37)),
+        ("rook 8x8", rook(8)),
+        ("CFI over K4, itself", cfi(&k4(), false)),
+        ("CFI over K3,3, itself", cfi(&k33(), false)),
+        ("CFI over the cube, itself", cfi(&cube(), false)),
+    ];
+    let other = [
+        ("ring of 64 against two of 32", rings(&[64]), rings(&[32, 32])),
+        ("rook 4x4 against Shrikhande", rook(4), shrikhande()),
+        ("CFI over K4, twisted", cfi(&k4(), false), cfi(&k4(), true)),
+        ("CFI over K3,3, twisted", cfi(&k33(), false), cfi(&k33(), true)),
+        ("CFI over the cube, twisted", cfi(&cube(), false), cfi(&cube(), true)),
+    ];
+    let same = same.into_iter().map(|(name, model)| (name, model.clone(), model));
+    let mut all: Vec<_> = same.chain(other).collect();
+    all.iter_mut().for_each(|(_, _, right)| *right = shuffled(right, random));
+    all
+}
+
+struct Table {
+    port: Port,
+    /// The least ratio so far, and its scene.
+    slowest: Option<(f64, String)>,
+}
+
+impl Table {
+    /// Times a scene, after both sides have been seen to agree on it, and prints its row.
+    fn row<T>(&mut self, name: &str, call: &Call, original: impl FnMut() -> T) {
+        let lent = ample(call);
+        self.port.reset();
+        self.port.ask(call, lent);
+        assert!(self.port.said(call, lent, &expected::answer(call, lent)), "the sides differ on {name}");
+        let (theirs, ours) = fastest(original, &mut self.port, call, lent);
+        let ratio = theirs as f64 / ours as f64;
+        println!("{name:42} {theirs:14} {ours:14} {ratio:7.1}");
+        if self.slowest.as_ref().map_or(true, |(least, _)| ratio < *least) {
+            self.slowest = Some((ratio, name.into()));
+        }
+    }
+
+    fn find(&mut self, name: &str, left: &File, right: &File) {
+        let (l, r) = (&left.known().model, &right.known().model);
+        self.row(name, &Call::Find { left, right }, || {
+            find_isomorphism(black_box(l), black_box(r), Fuel::Infinite)
+        });
+    }
+
+    /// A prescription with its ears fixed, by pairs and under a base.
+    fn ears(&mut self, random: &mut Random) {
+        let model = prescription();
+        let to = renumbering(&model, random);
+        let (base, left, right) = (File::of(&ears()), File::of(&model), File::of(&renumbered(&model, &to)));
+        let (b, l, r) = (base.known(), left.known(), right.known());
+        let pairs = [0, to[0], 1, to[1]];
+        let fixed = elements(l, r, &pairs);
+        self.row(
+            "prescription, ears fixed by pairs",
+            &Call::Pairs {
+                left: &left,
+                right: &right,
+                pairs: &pairs,
+            },
+            || find_with_fixed_pairs(black_box(&l.model), black_box(&r.model), &fixed, Fuel::Infinite).map(|map| map.is_some()),
+        );
+        let (to_left, to_right) = (elements(b, l, &[0, 0, 1, 1]), elements(b, r, &pairs));
+        let call = Call::Under {
+            base: &base,
+            left: &left,
+            right: &right,
+            to_left: &[0, 1],
+            to_right: &to[..2],
+        };
+        self.row("prescription, under its ears", &call, || {
+            let (first, second) = (made(b, l, &to_left), made(b, r, &to_right));
+            find_isomorphism_under(&first, &second, Fuel::Infinite).map(|map| map.is_some())
+        });
+    }
+
+    /// Check, inverse and compose of a renumbering of 2,048 cells.
+    fn maps(&mut self, random: &mut Random) {
+        let model = full(2, random);
+        let to = renumbering(&model, random);
+        let mut back = vec![0; to.len()];
+        to.iter().enumerate().for_each(|(e, &image)| back[usize::from(image)] = e as u8);
+        let (left, right) = (File::of(&model), File::of(&renumbered(&model, &to)));
+        let (l, r) = (left.known(), right.known());
+        let pairs = pairs_of(&to);
+        let (there, again) = (elements(l, r, &pairs), elements(r, l, &pairs_of(&back)));
+        self.row(
+            "check, 2,048 cells",
+            &Call::Check {
+                source: &left,
+                target: &right,
+                pairs: &pairs,
+            },
+            || made(l, r, &there),
+        );
+        self.row(
+            "inverse, 2,048 cells",
+            &Call::Inverse {
+                source: &left,
+                target: &right,
+                map: &to,
+            },
+            || made(l, r, &there).inverse().is_ok(),
+        );
+        let call = Call::Compose {
+            source: &left,
+            middle: &right,
+            target: &left,
+            first: &to,
+            second: &back,
+        };
+        self.row("compose, 2,048 cells", &call, || {
+            made(l, r, &there).then(&made(r, l, &again)).map(|map| map.iter().len())
+        });
+        remark(&made(l, r, &there), &made(r, l, &again));
+    }
+}
+
+/// The original's inverse and composite alone, of maps that are made before the clock starts.
+fn remark(there: &ModelHom, again: &ModelHom) {
+    let inverse = fastest_of(|| black_box(there).inverse());
+    let then = fastest_of(|| black_box(there).then(black_box(again)));
+    println!("remark: of the original's, inverse alone {inverse} ns, then alone {then} ns");
+}
+
+/// A map as a pair list.
+fn pairs_of(map: &[u8]) -> Vec<u8> {
+    map.iter().enumerate().flat_map(|(e, &image)| [e as u8, image]).collect()
+}
+
+fn elements(source: &Meaning, target: &Meaning, pairs: &[u8]) -> Vec<(Element, Element)> {
+    pairs.chunks(2).map(|pair| (source.element(pair[0]), target.element(pair[1]))).collect()
+}
+
+fn made<'a>(source: &'a Meaning, target: &'a Meaning, pairs: &[(Element, Element)]) -> ModelHom<'a> {
+    ModelHom::new(black_box(&source.model), black_box(&target.model), pairs.iter().copied()).expect("a map")
+}
+
+/// The least time of each side in nanoseconds.
+fn fastest<T>(mut original: impl FnMut() -> T, port: &mut Port, call: &Call, lent: Lent) -> (u128, u128) {
+    let (mut theirs, mut ours) = (u128::MAX, u128::MAX);
+    let began = Instant::now();
+    let mut turns = 0;
+    while turns < TURNS || began.elapsed() < TIME {
+        theirs = theirs.min(timed(&mut original));
+        ours = ours.min(timed(|| port.ask(black_box(call), lent)));
+        turns += 1;
+    }
+    (theirs, ours)
+}
+
+fn fastest_of<T>(mut run: impl FnMut() -> T) -> u128 {
+    (0..1000).map(|_| timed(&mut run)).min().expect("a time")
+}
+
+/// How long a run takes; what it gives back is dropped after the clock stops.
+fn timed<T>(mut run: impl FnMut() -> T) -> u128 {
+    let began = Instant::now();
+    let given = black_box(run());
+    let time = began.elapsed().as_nanos();
+    drop(given);
+    time
+}

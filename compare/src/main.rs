@@ -1,0 +1,33 @@
+//! The original beside the port. `README.md` says what is compared and how.
+mod bench;
+mod call;
+mod calls;
+mod expected;
+mod file;
+mod line;
+mod models;
+mod port;
+mod random;
+mod stored;
+mod vectors;
+
+use std::process::ExitCode;
+
+fn main() -> ExitCode {
+    match std::env::args().nth(1).as_deref() {
+        Some("calls") if calls::run() => ExitCode::SUCCESS,
+        Some("calls") => ExitCode::FAILURE,
+        Some("bench") => {
+            bench::run();
+            ExitCode::SUCCESS
+        }
+        Some("vectors") => {
+            vectors::write().expect("the list could not be written");
+            ExitCode::SUCCESS
+        }
+        _ => {
+            eprintln!("compare calls | bench | vectors");
+            ExitCode::from(2)
+        }
+    }
+}

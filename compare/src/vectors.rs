@@ -1,0 +1,125 @@
+//! The list of calls that the program `vectors` replays.
+use crate::call::{Call, Lent};
+use crate::calls::{Ask, FAMILIES};
+use crate::expected;
+use crate::line::{self, Words};
+use crate::port::{Port, UNTOUCHED};
+use std::collections::BTreeSet;
+use std::path::{Path, PathBuf};
+use std::{fs, io};
+
+/// The lines at the top of the list, which came with document 01.
+const HANDED_OVER: usize = 1077;
+/// Most lines of one family, and most characters of one line.
+const LINES: usize = 200;
+const CHARACTERS: usize = 700;
+
+fn folder() -> PathBuf {
+    Path::new(env!("CARGO_MANIFEST_DIR")).join("../crates/vectors")
+}
+
+/// The lines of a file of the list that came with document 01.
+fn kept(name: &str) -> io::Result<Vec<String>> {
+    let text = fs::read_to_string(folder().join(name))?;
+    Ok(text.lines().take(HANDED_OVER).map(String::from).collect())
+}
+
+/// The calls that came with document 01.
+pub fn handed_over(ask: Ask) {
+    for line in kept("stdin").expect("the list of calls") {
+        let words = Words::new(&line);
+        ask(&words.call(), words.lent);
+    }
+}
+
+/// Whether the original answers a call as a line of the list says; a line with 2 says nothing about the original. Units and work are the port's own.
+fn is_answered_so(words: &Words, stated: &str) -> bool {
+    let (call, lent) = (words.call(), words.lent);
+    let answer = expected::answer(&call, lent);
+    let mut said = answer.number.to_string();
+    answer.carried.iter().for_each(|value| said += &format!(" {value}"));
+    if call.domain().is_some() {
+        let mut output = answer.map.unwrap_or_default();
+        output.resize(lent.room.max(output.len()), UNTOUCHED);
+        said += &format!(" map {}", line::hex(&output));
+    }
+    let stated: Vec<_> = stated.split(" work ").next().unwrap_or("").split(' ').collect();
+    let units = call.searches() && answer.number <= 1;
+    let without_units = |place: &usize| !(units && *place == 1);
+    let stated: Vec<_> = (0..stated.len()).filter(without_units).map(|place| stated[place]).collect();
+    said == stated.join(" ")
+}
+
+/// The original beside the answers stated in the list that came with document 01: how many lines, and on how many they differ.
+pub fn original_beside_stated() -> (usize, usize) {
+    let (mut lines, mut differ) = (0, 0);
+    for (asked, stated) in kept("stdin")
+        .expect("the list of calls")
+        .iter()
+        .zip(kept("stdout").expect("the list of answers"))
+    {
+        if !stated.starts_with("2 ") {
+            lines += 1;
+            differ += usize::from(!is_answered_so(&Words::new(asked), &stated));
+        }
+    }
+    (lines, differ)
+}
+
+/// Writes the list anew: the lines that came with document 01 as they are, then lines from each family of calls.
+pub fn write() -> io::Result<()> {
+    let (mut calls, mut answers) = (kept("stdin")?, kept("stdout")?);
+    let mut known: BTreeSet<String> = calls.iter().cloned().collect();
+    let mut port = Port::new();
+    for (name, family) in FAMILIES {
+        let before = calls.len();
+        let every = spread(family);
+        let mut place = 0;
+        family(&mut |call, lent| {
+            place += 1;
+            if place % every == 0 && is_short(call, lent) {
+                add(call, lent, &mut port, &mut known, &mut calls, &mut answers);
+            }
+        });
+        println!("{name}: {} lines", calls.len() - before);
+    }
+    put("stdin", &calls)?;
+    put("stdout", &answers)?;
+    println!("{} lines", calls.len());
+    Ok(())
+}
+
+/// So that about as many of a family's short calls are taken as a family has lines.
+fn spread(family: fn(Ask)) -> usize {
+    let mut short = 0;
+    let mut all = 0;
+    family(&mut |call, lent| {
+        all += 1;
+        short += usize::from(is_short(call, lent));
+    });
+    // an odd step, so that no kind of call that comes round in turn is passed over
+    (all / LINES.min(short).max(1)).max(1) | 1
+}
+
+fn is_short(call: &Call, lent: Lent) -> bool {
+    let bytes: usize = call.files().iter().map(|file| 2 * file.bytes.len()).sum();
+    bytes + 2 * lent.room < CHARACTERS
+}
+
+/// Adds a call with its answer, once. The number, the map, and all that is carried but units of search are the original's; where the port says otherwise the
+/// list is not made.
+fn add(call: &Call, lent: Lent, port: &mut Port, known: &mut BTreeSet<String>, calls: &mut Vec<String>, answers: &mut Vec<String>) {
+    let asked = line::call(call, lent);
+    if !known.insert(asked.clone()) {
+        return;
+    }
+    port.reset();
+    port.ask(call, lent);
+    assert!(port.said(call, lent, &expected::answer(call, lent)), "the sides differ on {asked}");
+    calls.push(asked);
+    answers.push(line::answer(call, lent, port));
+}
+
+fn put(name: &str, lines: &[String]) -> io::Result<()> {
+    fs::write(folder().join(name), lines.join("\n") + "\n")
+}
