@@ -4,6 +4,7 @@
 //! of elements for the original, which makes its maps by `ModelHom::new` within the time. The two sides take turns, and the least time of each counts.
 use crate::call::{Call, Lent};
 use crate::calls::ample;
+use crate::clock;
 use crate::expected;
 use crate::file::{File, Meaning};
 use crate::models::families::{bare, cfi, cube, ears, k33, k4, paley, prescription, rings, rook, shrikhande};
@@ -186,8 +187,8 @@ fn made<'a>(source: &'a Meaning, target: &'a Meaning, pairs: &[(Element, Element
 }
 
 /// The least time of each side in nanoseconds.
-fn fastest<T>(mut original: impl FnMut() -> T, port: &mut Port, call: &Call, lent: Lent) -> (u128, u128) {
-    let (mut theirs, mut ours) = (u128::MAX, u128::MAX);
+fn fastest<T>(mut original: impl FnMut() -> T, port: &mut Port, call: &Call, lent: Lent) -> (u64, u64) {
+    let (mut theirs, mut ours) = (u64::MAX, u64::MAX);
     let began = Instant::now();
     let mut turns = 0;
     while turns < TURNS || began.elapsed() < TIME {
@@ -195,18 +196,19 @@ fn fastest<T>(mut original: impl FnMut() -> T, port: &mut Port, call: &Call, len
         ours = ours.min(timed(|| port.ask(black_box(call), lent)));
         turns += 1;
     }
-    (theirs, ours)
+    let cost = clock::cost();
+    (theirs - cost, ours - cost)
 }
 
-fn fastest_of<T>(mut run: impl FnMut() -> T) -> u128 {
-    (0..1000).map(|_| timed(&mut run)).min().expect("a time")
+fn fastest_of<T>(mut run: impl FnMut() -> T) -> u64 {
+    (0..1000).map(|_| timed(&mut run)).min().expect("a time") - clock::cost()
 }
 
-/// How long a run takes; what it gives back is dropped after the clock stops.
-fn timed<T>(mut run: impl FnMut() -> T) -> u128 {
-    let began = Instant::now();
+/// How long a run takes, with one look at the clock; what it gives back is dropped after that.
+fn timed<T>(mut run: impl FnMut() -> T) -> u64 {
+    let began = clock::now();
     let given = black_box(run());
-    let time = began.elapsed().as_nanos();
+    let time = clock::now() - began;
     drop(given);
     time
 }

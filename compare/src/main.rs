@@ -2,6 +2,7 @@
 mod bench;
 mod call;
 mod calls;
+mod clock;
 mod expected;
 mod file;
 mod line;

@@ -89,16 +89,18 @@ pub fn write() -> io::Result<()> {
     Ok(())
 }
 
-/// So that about as many of a family's short calls are taken as a family has lines.
+/// Which of a family's calls are taken, one in so many: about as many short ones as a family has lines. Calls of several kinds come round in turn, up to 7 of
+/// them, so that a step that shares a factor with their number would pass some over.
 fn spread(family: fn(Ask)) -> usize {
-    let mut short = 0;
-    let mut all = 0;
+    let (mut all, mut short) = (0, 0);
     family(&mut |call, lent| {
         all += 1;
         short += usize::from(is_short(call, lent));
     });
-    // an odd step, so that no kind of call that comes round in turn is passed over
-    (all / LINES.min(short).max(1)).max(1) | 1
+    let least = all / LINES.min(short).max(1);
+    (least.max(1)..)
+        .find(|step| [2, 3, 5, 7].iter().all(|turn| step % turn != 0))
+        .expect("a step")
 }
 
 fn is_short(call: &Call, lent: Lent) -> bool {

@@ -2,7 +2,7 @@
 use super::{ask_amply, Ask};
 use crate::call::Call;
 use crate::file::File;
-use crate::models::exhaustive::{graphs, pair_lists, rooted_graphs, symmetric_graphs, words};
+use crate::models::exhaustive::{graphs, pair_lists, rooted, rooted_graphs, symmetric_graphs, words};
 use crate::models::random::with_another_row;
 use crate::models::{canonical, shuffled};
 use crate::random::Random;
@@ -63,11 +63,11 @@ fn every_list(ask: Ask, n: usize, lefts: &[File], rights: &[File]) {
     }
 }
 
-/// Every graph of up to 3 elements under all representatives: its identity, that at each element, and find against itself under other numbers, with rows as
+/// Every graph of up to 3 elements, and every symmetric one of 4, under all representatives: its identity, that at each element, and find against itself under other numbers, with rows as
 /// they are and taken to representatives.
 pub fn representatives(ask: Ask) {
     let mut random = Random::new(3);
-    for model in (0..=3).flat_map(rooted_graphs) {
+    for model in (0..=3).flat_map(rooted_graphs).chain(rooted(symmetric_graphs(4), 4)) {
         let other = shuffled(&model, &mut random);
         let (left, right) = (File::of(&model), File::of(&other));
         ask_amply(ask, Call::Identity { model: &left });

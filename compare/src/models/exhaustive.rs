@@ -26,17 +26,24 @@ pub fn roots(n: usize) -> Vec<Vec<u8>> {
     words(n, &(0..n as u8).collect::<Vec<_>>()).into_iter().filter(are_roots).collect()
 }
 
+/// Models of n elements of one type, each under all representatives.
+pub fn rooted(models: impl Iterator<Item = Stored>, n: usize) -> Vec<Stored> {
+    let roots = roots(n);
+    let under_all = |model: Stored| {
+        roots
+            .iter()
+            .map(move |roots| Stored {
+                roots: roots.clone(),
+                ..model.clone()
+            })
+            .collect::<Vec<_>>()
+    };
+    models.flat_map(under_all).collect()
+}
+
 /// Every graph on n elements under all representatives.
 pub fn rooted_graphs(n: usize) -> Vec<Stored> {
-    let roots = roots(n);
-    graphs(n)
-        .flat_map(|graph| {
-            roots.iter().map(move |roots| Stored {
-                roots: roots.clone(),
-                ..graph.clone()
-            })
-        })
-        .collect()
+    rooted(graphs(n), n)
 }
 
 /// All lists of so many bytes out of these.

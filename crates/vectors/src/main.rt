@@ -36,17 +36,17 @@ ghost use mathlib.Core.Path.{_≡_};
 ghost use lib.ListN.{length};
 
 // Room for all of standard input. The `ensures` gives only the length, which lending the array as a slice needs.
-fn input_buffer() -> [u8; 524288]
-    ensures { λ r. ⌜ 524288 ≡ length r ⌝ }
+fn input_buffer() -> [u8; 1048576]
+    ensures { λ r. ⌜ 1048576 ≡ length r ⌝ }
 {
-    [0; 524288]
+    [0; 1048576]
 }
 
-// An input of 524,288 bytes or more is not replayed, since it may go on past the buffer.
+// An input of 1,048,576 bytes or more is not replayed, since it may go on past the buffer.
 fn main() {
     let mut buf = input_buffer();
     let n = io::read_full(libc::STDIN_FILENO, &mut buf);
-    if n < 524288 {
+    if n < 1048576 {
         lines::replay_all(&buf[..n]);
     } else {
         io::write_all(libc::STDOUT_FILENO, b"too many calls\n");
