@@ -38,10 +38,7 @@ fn sources(original: &Path) -> String {
     }
     let file = original.join("model_hom.rs");
     println!("cargo:rerun-if-changed={}", file.display());
-    text + &format!(
-        "pub mod model_hom {{\n    include!({file:?});\n    include!({:?});\n}}\n",
-        beside("find_with_fixed_pairs.rs")
-    )
+    text + &format!("pub mod model_hom {{\n    include!({file:?});\n    include!({:?});\n}}\n", beside("find_with_fixed_pairs.rs"))
 }
 
 /// A file of ours beside the stand-ins.

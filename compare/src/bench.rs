@@ -1,7 +1,8 @@
 //! The same scenes on both sides, timed in one run.
 //!
-//! The original's models are built before the clock starts; the port starts from bytes. Maps and pair lists are arguments of a call: bytes for the port, pairs
-//! of elements for the original, which makes its maps by `ModelHom::new` within the time. The two sides take turns, and the least time of each counts.
+//! The original's models are built before the clock starts; the port starts from bytes. Maps and pair lists are arguments of a call: bytes for the
+//! port, pairs of elements for the original, which makes its maps by `ModelHom::new` within the time. The two sides take turns, and the least time
+//! of each counts.
 use crate::call::{Call, Lent};
 use crate::calls::ample;
 use crate::clock;
@@ -23,10 +24,7 @@ const TURNS: u32 = 5;
 
 pub fn run() {
     println!("{:42} {:>14} {:>14} {:>7}", "scene", "original (ns)", "port (ns)", "ratio");
-    let mut table = Table {
-        port: Port::new(),
-        slowest: None,
-    };
+    let mut table = Table { port: Port::new(), slowest: None };
     let mut random = Random::new(41);
     for (name, left, right) in searches(&mut random) {
         table.find(name, &File::of(&left), &File::of(&right));
@@ -88,9 +86,7 @@ impl Table {
 
     fn find(&mut self, name: &str, left: &File, right: &File) {
         let (l, r) = (&left.known().model, &right.known().model);
-        self.row(name, &Call::Find { left, right }, || {
-            find_isomorphism(black_box(l), black_box(r), Fuel::Infinite)
-        });
+        self.row(name, &Call::Find { left, right }, || find_isomorphism(black_box(l), black_box(r), Fuel::Infinite));
     }
 
     /// A prescription with its ears fixed, by pairs and under a base.
@@ -101,23 +97,11 @@ impl Table {
         let (b, l, r) = (base.known(), left.known(), right.known());
         let pairs = [0, to[0], 1, to[1]];
         let fixed = elements(l, r, &pairs);
-        self.row(
-            "prescription, ears fixed by pairs",
-            &Call::Pairs {
-                left: &left,
-                right: &right,
-                pairs: &pairs,
-            },
-            || find_with_fixed_pairs(black_box(&l.model), black_box(&r.model), &fixed, Fuel::Infinite).map(|map| map.is_some()),
-        );
+        self.row("prescription, ears fixed by pairs", &Call::Pairs { left: &left, right: &right, pairs: &pairs }, || {
+            find_with_fixed_pairs(black_box(&l.model), black_box(&r.model), &fixed, Fuel::Infinite).map(|map| map.is_some())
+        });
         let (to_left, to_right) = (elements(b, l, &[0, 0, 1, 1]), elements(b, r, &pairs));
-        let call = Call::Under {
-            base: &base,
-            left: &left,
-            right: &right,
-            to_left: &[0, 1],
-            to_right: &to[..2],
-        };
+        let call = Call::Under { base: &base, left: &left, right: &right, to_left: &[0, 1], to_right: &to[..2] };
         self.row("prescription, under its ears", &call, || {
             let (first, second) = (made(b, l, &to_left), made(b, r, &to_right));
             find_isomorphism_under(&first, &second, Fuel::Infinite).map(|map| map.is_some())
@@ -134,34 +118,10 @@ impl Table {
         let (l, r) = (left.known(), right.known());
         let pairs = pairs_of(&to);
         let (there, again) = (elements(l, r, &pairs), elements(r, l, &pairs_of(&back)));
-        self.row(
-            "check, 2,048 cells",
-            &Call::Check {
-                source: &left,
-                target: &right,
-                pairs: &pairs,
-            },
-            || made(l, r, &there),
-        );
-        self.row(
-            "inverse, 2,048 cells",
-            &Call::Inverse {
-                source: &left,
-                target: &right,
-                map: &to,
-            },
-            || made(l, r, &there).inverse().is_ok(),
-        );
-        let call = Call::Compose {
-            source: &left,
-            middle: &right,
-            target: &left,
-            first: &to,
-            second: &back,
-        };
-        self.row("compose, 2,048 cells", &call, || {
-            made(l, r, &there).then(&made(r, l, &again)).map(|map| map.iter().len())
-        });
+        self.row("check, 2,048 cells", &Call::Check { source: &left, target: &right, pairs: &pairs }, || made(l, r, &there));
+        self.row("inverse, 2,048 cells", &Call::Inverse { source: &left, target: &right, map: &to }, || made(l, r, &there).inverse().is_ok());
+        let call = Call::Compose { source: &left, middle: &right, target: &left, first: &to, second: &back };
+        self.row("compose, 2,048 cells", &call, || made(l, r, &there).then(&made(r, l, &again)).map(|map| map.iter().len()));
         remark(&made(l, r, &there), &made(r, l, &again));
     }
 }

@@ -5,48 +5,14 @@ pub const WORK: usize = 32768;
 
 /// Which call, and its arguments.
 pub enum Call<'a> {
-    Identity {
-        model: &'a File,
-    },
-    Check {
-        source: &'a File,
-        target: &'a File,
-        pairs: &'a [u8],
-    },
-    Apply {
-        source: &'a File,
-        target: &'a File,
-        map: &'a [u8],
-        element: u8,
-    },
-    Compose {
-        source: &'a File,
-        middle: &'a File,
-        target: &'a File,
-        first: &'a [u8],
-        second: &'a [u8],
-    },
-    Inverse {
-        source: &'a File,
-        target: &'a File,
-        map: &'a [u8],
-    },
-    Find {
-        left: &'a File,
-        right: &'a File,
-    },
-    Pairs {
-        left: &'a File,
-        right: &'a File,
-        pairs: &'a [u8],
-    },
-    Under {
-        base: &'a File,
-        left: &'a File,
-        right: &'a File,
-        to_left: &'a [u8],
-        to_right: &'a [u8],
-    },
+    Identity { model: &'a File },
+    Check { source: &'a File, target: &'a File, pairs: &'a [u8] },
+    Apply { source: &'a File, target: &'a File, map: &'a [u8], element: u8 },
+    Compose { source: &'a File, middle: &'a File, target: &'a File, first: &'a [u8], second: &'a [u8] },
+    Inverse { source: &'a File, target: &'a File, map: &'a [u8] },
+    Find { left: &'a File, right: &'a File },
+    Pairs { left: &'a File, right: &'a File, pairs: &'a [u8] },
+    Under { base: &'a File, left: &'a File, right: &'a File, to_left: &'a [u8], to_right: &'a [u8] },
 }
 
 /// What is lent with a call: the output's length, the work's, and the budget.

@@ -1,7 +1,7 @@
 //! What the original answers, in document 01's numbers.
 //!
-//! 10, 11 and 20, and of find 14 and 15, are additions of the port: 10 is the second reader's, the others follow the document's order. All else is said by
-//! the original: errors of `ModelHom::new` by their kind and their words, and every map.
+//! 10, 11 and 20, and of find 14 and 15, are additions of the port: 10 is the second reader's, the others follow the document's order. All else is
+//! said by the original: errors of `ModelHom::new` by their kind and their words, and every map.
 use crate::call::{Answer, Call, Lent, WORK};
 use crate::file::{File, Meaning};
 use original::{find_isomorphism, find_isomorphism_under, find_with_fixed_pairs, Element, Error, Fuel, ModelHom, RelationId};
@@ -27,38 +27,17 @@ fn said(call: &Call, lent: Lent) -> Said {
     match *call {
         Call::Identity { model } => Ok(identity(model.known())),
         Call::Check { source, target, pairs } => check(source.known(), target.known(), pairs),
-        Call::Apply {
-            source,
-            target,
-            map,
-            element,
-        } => apply(source.known(), target.known(), map, element),
-        Call::Compose {
-            source,
-            middle,
-            target,
-            first,
-            second,
-        } => compose([source.known(), middle.known(), target.known()], first, second),
+        Call::Apply { source, target, map, element } => apply(source.known(), target.known(), map, element),
+        Call::Compose { source, middle, target, first, second } => compose([source.known(), middle.known(), target.known()], first, second),
         Call::Inverse { source, target, map } => inverse(source.known(), target.known(), map),
         Call::Find { left, right } => find(left.known(), right.known()),
         Call::Pairs { left, right, pairs } => find_with_pairs(left.known(), right.known(), pairs),
-        Call::Under {
-            base,
-            left,
-            right,
-            to_left,
-            to_right,
-        } => find_under([base.known(), left.known(), right.known()], to_left, to_right),
+        Call::Under { base, left, right, to_left, to_right } => find_under([base.known(), left.known(), right.known()], to_left, to_right),
     }
 }
 
 fn refuse<T>(number: u32, carried: &[u64]) -> Result<T, Answer> {
-    Err(Answer {
-        number,
-        carried: carried.to_vec(),
-        map: None,
-    })
+    Err(Answer { number, carried: carried.to_vec(), map: None })
 }
 
 /// 0 with a map: of each source element its image's number, 255 at an alias.
@@ -67,19 +46,11 @@ fn accepted(source: &Meaning, target: &Meaning, map: &ModelHom) -> Answer {
     for (element, image) in map.iter() {
         bytes[usize::from(source.number(element))] = target.number(image);
     }
-    Answer {
-        number: 0,
-        carried: vec![],
-        map: Some(bytes),
-    }
+    Answer { number: 0, carried: vec![], map: Some(bytes) }
 }
 
 fn none() -> Answer {
-    Answer {
-        number: 1,
-        carried: vec![],
-        map: None,
-    }
+    Answer { number: 1, carried: vec![], map: None }
 }
 
 fn identity(model: &Meaning) -> Answer {
@@ -88,10 +59,7 @@ fn identity(model: &Meaning) -> Answer {
 
 /// The pairs of a list; what is over at an odd length is left out.
 fn elements(source: &Meaning, target: &Meaning, pairs: &[u8]) -> Vec<(Element, Element)> {
-    pairs
-        .chunks_exact(2)
-        .map(|pair| (source.element(pair[0]), target.element(pair[1])))
-        .collect()
+    pairs.chunks_exact(2).map(|pair| (source.element(pair[0]), target.element(pair[1]))).collect()
 }
 
 fn check(source: &Meaning, target: &Meaning, pairs: &[u8]) -> Said {
@@ -168,10 +136,7 @@ fn map_of<'a>(place: u64, source: &'a Meaning, target: &'a Meaning, bytes: &[u8]
     if bytes.len() != from.n() || !bytes.iter().enumerate().all(is_entry) {
         return refuse(19, &[place]);
     }
-    let pairs = from
-        .representatives()
-        .into_iter()
-        .map(|e| (source.element(e), target.element(bytes[usize::from(e)])));
+    let pairs = from.representatives().into_iter().map(|e| (source.element(e), target.element(bytes[usize::from(e)])));
     match ModelHom::new(&source.model, &target.model, pairs) {
         Ok(map) => Ok(map),
         Err(_) => refuse(19, &[place]),
@@ -181,11 +146,7 @@ fn map_of<'a>(place: u64, source: &'a Meaning, target: &'a Meaning, bytes: &[u8]
 fn apply(source: &Meaning, target: &Meaning, map: &[u8], element: u8) -> Said {
     same_signature(&[source, target])?;
     match map_of(1, source, target, map)?.apply(source.element(element)) {
-        Ok(image) => Ok(Answer {
-            number: 0,
-            carried: vec![u64::from(target.number(image))],
-            map: None,
-        }),
+        Ok(image) => Ok(Answer { number: 0, carried: vec![u64::from(target.number(image))], map: None }),
         Err(_) => refuse(14, &[0, 1]),
     }
 }
@@ -218,8 +179,8 @@ fn find(left: &Meaning, right: &Meaning) -> Said {
     searched(left, right, 1, find_isomorphism(&left.model, &right.model, Fuel::Infinite))
 }
 
-/// The private function asks for representatives of like type, so that pairs are taken to representatives, and 20, 14 and 15 said, before it is called;
-/// where they are due its answer with no pairs says whether 12 or 13 comes first.
+/// The private function asks for representatives of like type, so that pairs are taken to representatives, and 20, 14 and 15 said, before it is
+/// called; where they are due its answer with no pairs says whether 12 or 13 comes first.
 fn find_with_pairs(left: &Meaning, right: &Meaning, pairs: &[u8]) -> Said {
     match representatives(left, right, pairs) {
         Ok(pairs) => searched(left, right, 1, find_with_fixed_pairs(&left.model, &right.model, &pairs, Fuel::Infinite)),

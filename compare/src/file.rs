@@ -22,20 +22,13 @@ impl File {
 
     pub fn of(stored: &Stored) -> Self {
         let file = Self::of_bytes(stored.bytes());
-        assert_eq!(
-            file.meaning.as_ref().map(|meaning| &meaning.stored),
-            Ok(stored),
-            "a model that the second reader refuses or reads otherwise"
-        );
+        assert_eq!(file.meaning.as_ref().map(|meaning| &meaning.stored), Ok(stored), "a model that the second reader refuses or reads otherwise");
         file
     }
 
     /// A model that was built in another way, with its stored form.
     pub fn of_model(stored: Stored, model: Model) -> Self {
-        Self {
-            bytes: stored.bytes(),
-            meaning: Ok(Meaning { stored, model }),
-        }
+        Self { bytes: stored.bytes(), meaning: Ok(Meaning { stored, model }) }
     }
 
     /// The number of elements; 0 of a malformed file.
@@ -61,10 +54,7 @@ impl Meaning {
     pub fn element(&self, number: u8) -> Element {
         let number = usize::from(number);
         let type_ = self.stored.type_of(number);
-        Element {
-            type_: TypeId(type_),
-            index: (number - first_of(&self.stored, type_)) as u32,
-        }
+        Element { type_: TypeId(type_), index: (number - first_of(&self.stored, type_)) as u32 }
     }
 
     /// The number of an element.

@@ -16,10 +16,7 @@ pub fn unhex(word: &str) -> Vec<u8> {
     if word == "_" {
         return vec![];
     }
-    (0..word.len())
-        .step_by(2)
-        .map(|at| u8::from_str_radix(&word[at..at + 2], 16).expect("hex"))
-        .collect()
+    (0..word.len()).step_by(2).map(|at| u8::from_str_radix(&word[at..at + 2], 16).expect("hex")).collect()
 }
 
 /// A call as a line.
@@ -29,38 +26,14 @@ pub fn call(call: &Call, lent: Lent) -> String {
     match *call {
         Call::Identity { model } => format!("identity {} {room}", file(model)),
         Call::Check { source, target, pairs } => format!("check {} {} {} {room}", file(source), file(target), hex(pairs)),
-        Call::Apply {
-            source,
-            target,
-            map,
-            element,
-        } => format!("apply {} {} {} {element:02x}", file(source), file(target), hex(map)),
-        Call::Compose {
-            source,
-            middle,
-            target,
-            first,
-            second,
-        } => {
-            format!(
-                "compose {} {} {} {} {} {room}",
-                file(source),
-                file(middle),
-                file(target),
-                hex(first),
-                hex(second)
-            )
+        Call::Apply { source, target, map, element } => format!("apply {} {} {} {element:02x}", file(source), file(target), hex(map)),
+        Call::Compose { source, middle, target, first, second } => {
+            format!("compose {} {} {} {} {} {room}", file(source), file(middle), file(target), hex(first), hex(second))
         }
         Call::Inverse { source, target, map } => format!("inverse {} {} {} {room}", file(source), file(target), hex(map)),
         Call::Find { left, right } => format!("find {} {} {budget:016x} {room} {work}", file(left), file(right)),
         Call::Pairs { left, right, pairs } => format!("pairs {} {} {} {budget:016x} {room} {work}", file(left), file(right), hex(pairs)),
-        Call::Under {
-            base,
-            left,
-            right,
-            to_left,
-            to_right,
-        } => {
+        Call::Under { base, left, right, to_left, to_right } => {
             let maps = format!("{} {}", hex(to_left), hex(to_right));
             format!("under {} {} {} {maps} {budget:016x} {room} {work}", file(base), file(left), file(right))
         }
@@ -115,16 +88,10 @@ impl Words {
         let (of_lists, rest) = rest.split_at(lists);
         let decimal = |word: &str| word.parse().expect("a length");
         let lent = match (numbers, rest) {
-            (1, [room]) => Lent {
-                room: decimal(room),
-                work: 0,
-                budget: 0,
-            },
-            (3, [budget, room, work]) => Lent {
-                room: decimal(room),
-                work: decimal(work),
-                budget: u64::from_str_radix(budget, 16).expect("a budget"),
-            },
+            (1, [room]) => Lent { room: decimal(room), work: 0, budget: 0 },
+            (3, [budget, room, work]) => {
+                Lent { room: decimal(room), work: decimal(work), budget: u64::from_str_radix(budget, 16).expect("a budget") }
+            }
             _ => Lent { room: 0, work: 0, budget: 0 },
         };
         Self {
@@ -141,45 +108,13 @@ impl Words {
         let bytes = |at: usize| self.bytes[at].as_slice();
         match self.name.as_str() {
             "identity" => Call::Identity { model: file(0) },
-            "check" => Call::Check {
-                source: file(0),
-                target: file(1),
-                pairs: bytes(0),
-            },
-            "apply" => Call::Apply {
-                source: file(0),
-                target: file(1),
-                map: bytes(0),
-                element: self.element,
-            },
-            "compose" => Call::Compose {
-                source: file(0),
-                middle: file(1),
-                target: file(2),
-                first: bytes(0),
-                second: bytes(1),
-            },
-            "inverse" => Call::Inverse {
-                source: file(0),
-                target: file(1),
-                map: bytes(0),
-            },
-            "find" => Call::Find {
-                left: file(0),
-                right: file(1),
-            },
-            "pairs" => Call::Pairs {
-                left: file(0),
-                right: file(1),
-                pairs: bytes(0),
-            },
-            _ => Call::Under {
-                base: file(0),
-                left: file(1),
-                right: file(2),
-                to_left: bytes(0),
-                to_right: bytes(1),
-            },
+            "check" => Call::Check { source: file(0), target: file(1), pairs: bytes(0) },
+            "apply" => Call::Apply { source: file(0), target: file(1), map: bytes(0), element: self.element },
+            "compose" => Call::Compose { source: file(0), middle: file(1), target: file(2), first: bytes(0), second: bytes(1) },
+            "inverse" => Call::Inverse { source: file(0), target: file(1), map: bytes(0) },
+            "find" => Call::Find { left: file(0), right: file(1) },
+            "pairs" => Call::Pairs { left: file(0), right: file(1), pairs: bytes(0) },
+            _ => Call::Under { base: file(0), left: file(1), right: file(2), to_left: bytes(0), to_right: bytes(1) },
         }
     }
 }

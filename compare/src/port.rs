@@ -117,12 +117,7 @@ pub struct Port {
 
 impl Port {
     pub fn new() -> Self {
-        Self {
-            map: vec![UNTOUCHED; MOST_ROOM],
-            work: vec![UNUSED; MOST_WORK],
-            number: 0,
-            carried: [0; 3],
-        }
+        Self { map: vec![UNTOUCHED; MOST_ROOM], work: vec![UNUSED; MOST_WORK], number: 0, carried: [0; 3] }
     }
 
     /// Makes every lent byte and entry what it is before a call.
@@ -189,22 +184,11 @@ unsafe fn by_name(call: &Call, budget: u64, (map, room): Out, (work, entries): W
             let ((s, sl), (t, tl), (p, pl)) = (file(source), file(target), bytes(pairs));
             bizakoma_check(s, sl, t, tl, p, pl, map, room, carried)
         }
-        Call::Apply {
-            source,
-            target,
-            map,
-            element,
-        } => {
+        Call::Apply { source, target, map, element } => {
             let ((s, sl), (t, tl), (m, ml)) = (file(source), file(target), bytes(map));
             bizakoma_apply(s, sl, t, tl, m, ml, element, carried)
         }
-        Call::Compose {
-            source,
-            middle,
-            target,
-            first,
-            second,
-        } => {
+        Call::Compose { source, middle, target, first, second } => {
             let ((s, sl), (m, ml), (t, tl)) = (file(source), file(middle), file(target));
             let ((f, fl), (n, nl)) = (bytes(first), bytes(second));
             bizakoma_compose(s, sl, m, ml, t, tl, f, fl, n, nl, map, room, carried)
@@ -221,13 +205,7 @@ unsafe fn by_name(call: &Call, budget: u64, (map, room): Out, (work, entries): W
             let ((l, ll), (r, rl), (p, pl)) = (file(left), file(right), bytes(pairs));
             bizakoma_find_with_pairs(l, ll, r, rl, p, pl, budget, map, room, work, entries, carried)
         }
-        Call::Under {
-            base,
-            left,
-            right,
-            to_left,
-            to_right,
-        } => {
+        Call::Under { base, left, right, to_left, to_right } => {
             let ((b, bl), (l, ll), (r, rl)) = (file(base), file(left), file(right));
             let ((f, fl), (g, gl)) = (bytes(to_left), bytes(to_right));
             bizakoma_find_under(b, bl, l, ll, r, rl, f, fl, g, gl, budget, map, room, work, entries, carried)

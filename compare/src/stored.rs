@@ -31,11 +31,7 @@ const MOST_COLUMNS: usize = 8;
 
 /// The model, or the offset of the first field at fault.
 pub fn read(bytes: &[u8]) -> Result<Stored, usize> {
-    let mut model = Stored {
-        types: vec![],
-        roots: vec![],
-        relations: vec![],
-    };
+    let mut model = Stored { types: vec![], roots: vec![], relations: vec![] };
     let mut due: &[u8] = &[TYPES];
     let mut at = 0;
     while !due.is_empty() {
@@ -131,9 +127,7 @@ impl Stored {
     }
 
     fn is_typed(&self, row: &[u8], columns: &[u8]) -> bool {
-        row.iter()
-            .zip(columns)
-            .all(|(&entry, &column)| self.type_of(usize::from(entry)) == usize::from(column))
+        row.iter().zip(columns).all(|(&entry, &column)| self.type_of(usize::from(entry)) == usize::from(column))
     }
 
     /// The stored form.

@@ -53,11 +53,7 @@ fn is_answered_so(words: &Words, stated: &str) -> bool {
 /// The original beside the answers stated in the list that came with document 01: how many lines, and on how many they differ.
 pub fn original_beside_stated() -> (usize, usize) {
     let (mut lines, mut differ) = (0, 0);
-    for (asked, stated) in kept("stdin")
-        .expect("the list of calls")
-        .iter()
-        .zip(kept("stdout").expect("the list of answers"))
-    {
+    for (asked, stated) in kept("stdin").expect("the list of calls").iter().zip(kept("stdout").expect("the list of answers")) {
         if !stated.starts_with("2 ") {
             lines += 1;
             differ += usize::from(!is_answered_so(&Words::new(asked), &stated));
@@ -66,31 +62,60 @@ pub fn original_beside_stated() -> (usize, usize) {
     (lines, differ)
 }
 
+/// The list as it is made.
+struct List {
+    port: Port,
+    calls: Vec<String>,
+    answers: Vec<String>,
+    /// The calls, to have each once.
+    known: BTreeSet<String>,
+}
+
 /// Writes the list anew: the lines that came with document 01 as they are, then lines from each family of calls.
 pub fn write() -> io::Result<()> {
-    let (mut calls, mut answers) = (kept("stdin")?, kept("stdout")?);
-    let mut known: BTreeSet<String> = calls.iter().cloned().collect();
-    let mut port = Port::new();
+    let (calls, answers) = (kept("stdin")?, kept("stdout")?);
+    let known = calls.iter().cloned().collect();
+    let mut list = List { port: Port::new(), calls, answers, known };
     for (name, family) in FAMILIES {
-        let before = calls.len();
+        let before = list.calls.len();
+        list.add_some_of(family);
+        println!("{name}: {} lines", list.calls.len() - before);
+    }
+    put("stdin", &list.calls)?;
+    put("stdout", &list.answers)?;
+    println!("{} lines", list.calls.len());
+    Ok(())
+}
+
+impl List {
+    fn add_some_of(&mut self, family: fn(Ask)) {
         let every = spread(family);
         let mut place = 0;
         family(&mut |call, lent| {
             place += 1;
             if place % every == 0 && is_short(call, lent) {
-                add(call, lent, &mut port, &mut known, &mut calls, &mut answers);
+                self.add(call, lent);
             }
         });
-        println!("{name}: {} lines", calls.len() - before);
     }
-    put("stdin", &calls)?;
-    put("stdout", &answers)?;
-    println!("{} lines", calls.len());
-    Ok(())
+
+    /// Adds a call with its answer, once. The number, the map, and all that is carried but units of search are the original's; where the port
+    /// says otherwise the list is not made.
+    fn add(&mut self, call: &Call, lent: Lent) {
+        let asked = line::call(call, lent);
+        if !self.known.insert(asked.clone()) {
+            return;
+        }
+        self.port.reset();
+        self.port.ask(call, lent);
+        assert!(self.port.said(call, lent, &expected::answer(call, lent)), "the sides differ on {asked}");
+        self.calls.push(asked);
+        self.answers.push(line::answer(call, lent, &self.port));
+    }
 }
 
-/// Which of a family's calls are taken, one in so many: about as many short ones as a family has lines. Calls of several kinds come round in turn, up to 7 of
-/// them, so that a step that shares a factor with their number would pass some over.
+/// Which of a family's calls are taken, one in so many: about as many short ones as a family has lines. Calls of several kinds come round in turn,
+/// up to 7 of them, so that a step that shares a factor with their number would pass some over.
 fn spread(family: fn(Ask)) -> usize {
     let (mut all, mut short) = (0, 0);
     family(&mut |call, lent| {
@@ -98,28 +123,12 @@ fn spread(family: fn(Ask)) -> usize {
         short += usize::from(is_short(call, lent));
     });
     let least = all / LINES.min(short).max(1);
-    (least.max(1)..)
-        .find(|step| [2, 3, 5, 7].iter().all(|turn| step % turn != 0))
-        .expect("a step")
+    (least.max(1)..).find(|step| [2, 3, 5, 7].iter().all(|turn| step % turn != 0)).expect("a step")
 }
 
 fn is_short(call: &Call, lent: Lent) -> bool {
     let bytes: usize = call.files().iter().map(|file| 2 * file.bytes.len()).sum();
     bytes + 2 * lent.room < CHARACTERS
-}
-
-/// Adds a call with its answer, once. The number, the map, and all that is carried but units of search are the original's; where the port says otherwise the
-/// list is not made.
-fn add(call: &Call, lent: Lent, port: &mut Port, known: &mut BTreeSet<String>, calls: &mut Vec<String>, answers: &mut Vec<String>) {
-    let asked = line::call(call, lent);
-    if !known.insert(asked.clone()) {
-        return;
-    }
-    port.reset();
-    port.ask(call, lent);
-    assert!(port.said(call, lent, &expected::answer(call, lent)), "the sides differ on {asked}");
-    calls.push(asked);
-    answers.push(line::answer(call, lent, port));
 }
 
 fn put(name: &str, lines: &[String]) -> io::Result<()> {

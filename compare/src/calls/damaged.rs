@@ -6,7 +6,8 @@ use crate::models::random::{drawn, drawn_canonical, SMALL};
 use crate::models::shuffled;
 use crate::random::Random;
 
-/// Each file cut short at every place, and with every byte changed in several ways, left out, or said twice; as the only model, as the second, as the first.
+/// Each file cut short at every place, and with every byte changed in several ways, left out, or said twice; as the only model, as the second, as
+/// the first.
 pub fn files(ask: Ask) {
     let mut random = Random::new(31);
     for _ in 0..60 {
@@ -14,19 +15,13 @@ pub fn files(ask: Ask) {
         for bytes in damages(&good.bytes, &mut random) {
             let bad = File::of_bytes(bytes);
             ask_amply(ask, Call::Identity { model: &bad });
-            ask_amply(
-                ask,
-                Call::Check {
-                    source: &good,
-                    target: &bad,
-                    pairs: &[],
-                },
-            );
+            ask_amply(ask, Call::Check { source: &good, target: &bad, pairs: &[] });
             ask_amply(ask, Call::Find { left: &bad, right: &good });
         }
     }
 }
 
+/// What a file becomes when it is cut, or one of its bytes is changed, left out or said twice.
 fn damages(good: &[u8], random: &mut Random) -> Vec<Vec<u8>> {
     let mut all = vec![[good, &[0]].concat()];
     for at in 0..good.len() {
@@ -52,48 +47,16 @@ pub fn room(ask: Ask) {
         let pairs = [random.below(7) as u8, random.below(7) as u8];
         let calls = [
             Call::Identity { model: &left },
-            Call::Check {
-                source: &left,
-                target: &right,
-                pairs: &pairs,
-            },
-            Call::Inverse {
-                source: &left,
-                target: &right,
-                map: &pairs,
-            },
-            Call::Compose {
-                source: &left,
-                middle: &right,
-                target: &right,
-                first: &pairs,
-                second: &pairs,
-            },
+            Call::Check { source: &left, target: &right, pairs: &pairs },
+            Call::Inverse { source: &left, target: &right, map: &pairs },
+            Call::Compose { source: &left, middle: &right, target: &right, first: &pairs, second: &pairs },
             Call::Find { left: &left, right: &right },
-            Call::Pairs {
-                left: &left,
-                right: &right,
-                pairs: &pairs,
-            },
-            Call::Under {
-                base: &left,
-                left: &left,
-                right: &right,
-                to_left: &pairs,
-                to_right: &pairs,
-            },
+            Call::Pairs { left: &left, right: &right, pairs: &pairs },
+            Call::Under { base: &left, left: &left, right: &right, to_left: &pairs, to_right: &pairs },
         ];
         for call in calls {
-            let work = if call.searches() {
-                *random.of(&[0, 1, WORK - 1, WORK, WORK + 1])
-            } else {
-                0
-            };
-            let lent = Lent {
-                room: random.below(model.n() + 2),
-                work,
-                ..ample(&call)
-            };
+            let work = if call.searches() { *random.of(&[0, 1, WORK - 1, WORK, WORK + 1]) } else { 0 };
+            let lent = Lent { room: random.below(model.n() + 2), work, ..ample(&call) };
             ask(&call, lent);
         }
     }

@@ -3,7 +3,7 @@ use super::{ask_amply, Ask};
 use crate::call::Call;
 use crate::file::File;
 use crate::models::built::built as built_model;
-use crate::models::random::{drawn, drawn_canonical, with_another_row, Size, ANY, SMALL};
+use crate::models::random::{drawn, drawn_canonical, with_a_row_more, with_another_row, Size, ANY, SMALL};
 use crate::models::{canonical, renumbered, renumbering, shuffled};
 use crate::random::Random;
 use crate::stored::Stored;
@@ -31,26 +31,15 @@ fn counterpart(model: &Stored, to: &[u8], size: &Size, random: &mut Random) -> S
     }
 }
 
+/// A canonical model against its counterpart, and one whose rows may hold aliases against itself under other numbers.
 pub fn finds(ask: Ask) {
     for_each(11, |size, random| {
         let model = drawn_canonical(size, random);
         let to = renumbering(&model, random);
         let other = counterpart(&model, &to, size, random);
-        ask_amply(
-            ask,
-            Call::Find {
-                left: &File::of(&model),
-                right: &File::of(&other),
-            },
-        );
+        ask_amply(ask, Call::Find { left: &File::of(&model), right: &File::of(&other) });
         let rough = drawn(size, true, random);
-        ask_amply(
-            ask,
-            Call::Find {
-                left: &File::of(&rough),
-                right: &File::of(&shuffled(&rough, random)),
-            },
-        );
+        ask_amply(ask, Call::Find { left: &File::of(&rough), right: &File::of(&shuffled(&rough, random)) });
     });
 }
 
@@ -80,6 +69,7 @@ fn pairs_along(to: &[u8], one_in: usize, random: &mut Random) -> Vec<u8> {
     elements.iter().flat_map(|&e| [e, to[usize::from(e)]]).collect()
 }
 
+/// A model against its counterpart, with many and with few pairs of the renumbering, one thing amiss in some lists.
 pub fn pairs(ask: Ask) {
     for_each(12, |size, random| {
         let model = drawn_canonical(size, random);
@@ -87,24 +77,21 @@ pub fn pairs(ask: Ask) {
         let (left, right) = (File::of(&model), File::of(&counterpart(&model, &to, size, random)));
         for one_in in [2, 6] {
             let pairs = pairs_along(&to, one_in, random);
-            ask_amply(
-                ask,
-                Call::Pairs {
-                    left: &left,
-                    right: &right,
-                    pairs: &spoilt(pairs, random),
-                },
-            );
+            ask_amply(ask, Call::Pairs { left: &left, right: &right, pairs: &spoilt(pairs, random) });
         }
     });
 }
 
-/// A model that this one has a map to, and the map, given at every element: the same under other numbers, with more elements merged, or with rows more.
+/// A model that this one has a map to, and the map, given at every element: the same under other numbers, with more elements merged, with a row more,
+/// or with rows taken to representatives.
 fn target_of(model: &Stored, random: &mut Random) -> (Stored, Vec<u8>) {
     let to = renumbering(model, random);
     let mut target = renumbered(model, &to);
-    if random.one_in(2) {
-        merge(&mut target, random);
+    match random.below(5) {
+        0 | 1 => merge(&mut target, random),
+        2 => target = with_a_row_more(&target, random),
+        3 => target = canonical(&target),
+        _ => {}
     }
     (target, to)
 }
@@ -121,6 +108,7 @@ fn merge(model: &mut Stored, random: &mut Random) {
     }
 }
 
+/// A model and one that it has a map to, with the map as a pair list, one thing amiss in some; and against another model.
 pub fn checks(ask: Ask) {
     for_each(13, |size, random| {
         let model = drawn(size, true, random);
@@ -128,23 +116,9 @@ pub fn checks(ask: Ask) {
         let (source, target) = (File::of(&model), File::of(&target));
         for _ in 0..3 {
             let pairs = pairs_along(&to, 1, random);
-            ask_amply(
-                ask,
-                Call::Check {
-                    source: &source,
-                    target: &target,
-                    pairs: &spoilt(pairs, random),
-                },
-            );
+            ask_amply(ask, Call::Check { source: &source, target: &target, pairs: &spoilt(pairs, random) });
         }
-        ask_amply(
-            ask,
-            Call::Check {
-                source: &source,
-                target: &File::of(&drawn(size, true, random)),
-                pairs: &[],
-            },
-        );
+        ask_amply(ask, Call::Check { source: &source, target: &File::of(&drawn(size, true, random)), pairs: &[] });
     });
 }
 
@@ -168,6 +142,7 @@ fn map_along(source: &Stored, target: &Stored, to: &[u8], random: &mut Random) -
     map
 }
 
+/// Two maps one after the other, one thing amiss in some.
 pub fn maps(ask: Ask) {
     for_each(14, |size, random| {
         let model = drawn(size, true, random);
@@ -177,41 +152,10 @@ pub fn maps(ask: Ask) {
         let second = map_along(&middle, &target, &to_target, random);
         let (source, middle, target) = (File::of(&model), File::of(&middle), File::of(&target));
         let element = random.below(model.n() + 2) as u8;
-        ask_amply(
-            ask,
-            Call::Apply {
-                source: &source,
-                target: &middle,
-                map: &first,
-                element,
-            },
-        );
-        ask_amply(
-            ask,
-            Call::Inverse {
-                source: &source,
-                target: &middle,
-                map: &first,
-            },
-        );
-        ask_amply(
-            ask,
-            Call::Inverse {
-                source: &middle,
-                target: &target,
-                map: &second,
-            },
-        );
-        ask_amply(
-            ask,
-            Call::Compose {
-                source: &source,
-                middle: &middle,
-                target: &target,
-                first: &first,
-                second: &second,
-            },
-        );
+        ask_amply(ask, Call::Apply { source: &source, target: &middle, map: &first, element });
+        ask_amply(ask, Call::Inverse { source: &source, target: &middle, map: &first });
+        ask_amply(ask, Call::Inverse { source: &middle, target: &target, map: &second });
+        ask_amply(ask, Call::Compose { source: &source, middle: &middle, target: &target, first: &first, second: &second });
         ask_amply(ask, Call::Identity { model: &target });
     });
 }
@@ -232,16 +176,7 @@ pub fn under(ask: Ask) {
         let to_left = map_along(&base, &left, &to_left, random);
         let to_right = map_along(&base, &right, &to_right, random);
         let (base, left, right) = (File::of(&base), File::of(&left), File::of(&right));
-        ask_amply(
-            ask,
-            Call::Under {
-                base: &base,
-                left: &left,
-                right: &right,
-                to_left: &to_left,
-                to_right: &to_right,
-            },
-        );
+        ask_amply(ask, Call::Under { base: &base, left: &left, right: &right, to_left: &to_left, to_right: &to_right });
     });
 }
 

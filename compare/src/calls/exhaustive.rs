@@ -31,18 +31,12 @@ pub fn graphs_of_4(ask: Ask) {
         let other = shuffled(&graph, &mut random);
         let (left, right, changed) = (File::of(&graph), File::of(&other), File::of(&with_another_row(&other, &mut random)));
         ask_amply(ask, Call::Find { left: &left, right: &right });
-        ask_amply(
-            ask,
-            Call::Find {
-                left: &left,
-                right: &changed,
-            },
-        );
+        ask_amply(ask, Call::Find { left: &left, right: &changed });
     }
 }
 
-/// All pair lists of up to 2 pairs: on all graphs of 2 elements against each other, on all of 3 under other numbers, on all symmetric ones of 4 against each
-/// other.
+/// All pair lists of up to 2 pairs: on all graphs of 2 elements against each other, on all of 3 under other numbers, on all symmetric ones of 4
+/// against each other.
 pub fn fixed_pairs(ask: Ask) {
     let mut random = Random::new(2);
     every_list(ask, 2, &files(graphs(2)), &files(graphs(2)));
@@ -63,8 +57,8 @@ fn every_list(ask: Ask, n: usize, lefts: &[File], rights: &[File]) {
     }
 }
 
-/// Every graph of up to 3 elements, and every symmetric one of 4, under all representatives: its identity, that at each element, and find against itself under other numbers, with rows as
-/// they are and taken to representatives.
+/// Every graph of up to 3 elements, and every symmetric one of 4, under all representatives: its identity, that at each element, and find against
+/// itself under other numbers, with rows as they are and taken to representatives.
 pub fn representatives(ask: Ask) {
     let mut random = Random::new(3);
     for model in (0..=3).flat_map(rooted_graphs).chain(rooted(symmetric_graphs(4), 4)) {
@@ -73,15 +67,7 @@ pub fn representatives(ask: Ask) {
         ask_amply(ask, Call::Identity { model: &left });
         let identity: Vec<_> = (0..model.n()).map(|e| if model.is_representative(e) { e as u8 } else { 255 }).collect();
         for element in 0..=model.n() as u8 {
-            ask_amply(
-                ask,
-                Call::Apply {
-                    source: &left,
-                    target: &left,
-                    map: &identity,
-                    element,
-                },
-            );
+            ask_amply(ask, Call::Apply { source: &left, target: &left, map: &identity, element });
         }
         ask_amply(ask, Call::Find { left: &left, right: &right });
         let (left, right) = (File::of(&canonical(&model)), File::of(&canonical(&other)));
@@ -89,8 +75,8 @@ pub fn representatives(ask: Ask) {
     }
 }
 
-/// Every graph of up to 2 elements under all representatives against each other: check of all pair lists of up to 2 pairs, inverse of all maps, and compose of
-/// a drawn two over every third one.
+/// Every graph of up to 2 elements under all representatives against each other: check of all pair lists of up to 2 pairs, inverse of all maps, and
+/// compose of a drawn two over every third one.
 pub fn maps(ask: Ask) {
     let mut random = Random::new(5);
     for n in 0..=2 {
@@ -107,16 +93,7 @@ pub fn maps(ask: Ask) {
                 }
                 for middle in &all {
                     let (first, second) = (random.of(&maps), random.of(&maps));
-                    ask_amply(
-                        ask,
-                        Call::Compose {
-                            source,
-                            middle,
-                            target,
-                            first,
-                            second,
-                        },
-                    );
+                    ask_amply(ask, Call::Compose { source, middle, target, first, second });
                 }
             }
         }
@@ -140,16 +117,7 @@ pub fn under(ask: Ask) {
         for right in &tops {
             for to_left in &maps {
                 for to_right in &maps {
-                    ask_amply(
-                        ask,
-                        Call::Under {
-                            base,
-                            left,
-                            right,
-                            to_left,
-                            to_right,
-                        },
-                    );
+                    ask_amply(ask, Call::Under { base, left, right, to_left, to_right });
                 }
             }
         }

@@ -31,11 +31,7 @@ fn port_says(call: &Call, lent: Lent, number: u32, carried: &[u64], map: Option<
     let mut port = Port::new();
     port.reset();
     port.ask(call, lent);
-    let answer = Answer {
-        number,
-        carried: carried.to_vec(),
-        map: map.map(<[u8]>::to_vec),
-    };
+    let answer = Answer { number, carried: carried.to_vec(), map: map.map(<[u8]>::to_vec) };
     port.said(call, lent, &answer) && port.carried[..carried.len()] == *carried
 }
 
@@ -46,11 +42,7 @@ fn find_says(left: &File, right: &File, number: u32, carried: &[u64], map: &[u8]
 
 /// Elements of one type with no relations.
 fn bare(roots: &[u8]) -> Stored {
-    Stored {
-        types: vec![roots.len() as u8],
-        roots: roots.to_vec(),
-        relations: vec![],
-    }
+    Stored { types: vec![roots.len() as u8], roots: roots.to_vec(), relations: vec![] }
 }
 
 fn element(type_: usize, index: u32) -> Element {
@@ -84,11 +76,7 @@ fn panics(left: &File, right: &File, pair: (Element, Element)) -> bool {
 
 fn unknown_element() -> bool {
     let file = File::of(&bare(&[0, 1]));
-    let call = Call::Pairs {
-        left: &file,
-        right: &file,
-        pairs: &[2, 0],
-    };
+    let call = Call::Pairs { left: &file, right: &file, pairs: &[2, 0] };
     panics(&file, &file, (element(0, 2), element(0, 0))) && port_says(&call, ample(&call), 14, &[0, 1], None)
 }
 
@@ -97,32 +85,20 @@ fn unlike_types() -> bool {
     let file = File::of(&model(&[1, 1], &[]));
     let both = &file.known().model;
     let found = find_with_fixed_pairs(both, both, &[(element(0, 0), element(1, 0))], Fuel::Infinite);
-    let call = Call::Pairs {
-        left: &file,
-        right: &file,
-        pairs: &[0, 1],
-    };
+    let call = Call::Pairs { left: &file, right: &file, pairs: &[0, 1] };
     matches!(found, Ok(None)) && port_says(&call, ample(&call), 15, &[0], None)
 }
 
 fn alias() -> bool {
     let file = File::of(&bare(&[0, 0]));
-    let call = Call::Pairs {
-        left: &file,
-        right: &file,
-        pairs: &[1, 1],
-    };
+    let call = Call::Pairs { left: &file, right: &file, pairs: &[1, 1] };
     panics(&file, &file, (element(0, 1), element(0, 1))) && port_says(&call, ample(&call), 0, &[2], Some(&[0, 255]))
 }
 
 /// Two models whose types differ in name alone.
 fn names() -> bool {
     let named = |name: &str| {
-        let type_ = Type {
-            name: name.into(),
-            kind: TypeKind::Plain,
-            parents: vec![],
-        };
+        let type_ = Type { name: name.into(), kind: TypeKind::Plain, parents: vec![] };
         Model::with_signature(Arc::new(Signature::new(vec![type_], vec![]).expect("a signature")))
     };
     let (a, b) = (named("A"), named("B"));
@@ -134,14 +110,5 @@ fn names() -> bool {
 fn empty_file() -> bool {
     let (empty, good) = (File::of_bytes(vec![]), File::of(&graph(1, [])));
     let call = Call::Find { left: &empty, right: &good };
-    port_says(
-        &call,
-        Lent {
-            budget: BUDGET,
-            ..ample(&call)
-        },
-        10,
-        &[1, 0],
-        None,
-    )
+    port_says(&call, Lent { budget: BUDGET, ..ample(&call) }, 10, &[1, 0], None)
 }

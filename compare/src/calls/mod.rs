@@ -40,16 +40,8 @@ pub const BUDGET: u64 = 1_000_000;
 pub fn ample(call: &Call) -> Lent {
     match call.domain().map(File::n) {
         None => Lent { room: 0, work: 0, budget: 0 },
-        Some(n) if call.searches() => Lent {
-            room: n + 3,
-            work: MOST_WORK,
-            budget: BUDGET,
-        },
-        Some(n) => Lent {
-            room: n + 3,
-            work: 0,
-            budget: 0,
-        },
+        Some(n) if call.searches() => Lent { room: n + 3, work: MOST_WORK, budget: BUDGET },
+        Some(n) => Lent { room: n + 3, work: 0, budget: 0 },
     }
 }
 
@@ -116,11 +108,7 @@ fn compare(port: &mut Port, count: &mut Count, call: &Call, lent: Lent) {
     if !port.said(call, lent, &answer) {
         count.differ += 1;
         if count.differ <= SHOWN {
-            println!(
-                "differs: {}\n  the original: {answer:?}\n  the port: {}",
-                line::call(call, lent),
-                line::answer(call, lent, port)
-            );
+            println!("differs: {}\n  the original: {answer:?}\n  the port: {}", line::call(call, lent), line::answer(call, lent, port));
         }
     }
 }

@@ -10,10 +10,12 @@ use crate::stored::Stored;
 /// Two models, and how many times they are renumbered.
 type Two = (Stored, Stored, usize);
 
+/// A model against itself.
 fn same(model: Stored, times: usize) -> Two {
     (model.clone(), model, times)
 }
 
+/// The families.
 fn two() -> Vec<Two> {
     let mut all = vec![];
     for n in [3, 6, 12, 24, 64] {
@@ -46,22 +48,8 @@ pub fn families(ask: Ask) {
             ask_amply(ask, Call::Find { left: &left, right: &right });
             let n = left.n();
             let pairs: Vec<_> = (0..4).map(|_| random.below(n) as u8).collect();
-            ask_amply(
-                ask,
-                Call::Pairs {
-                    left: &left,
-                    right: &right,
-                    pairs: &pairs[..2],
-                },
-            );
-            ask_amply(
-                ask,
-                Call::Pairs {
-                    left: &left,
-                    right: &right,
-                    pairs: &pairs,
-                },
-            );
+            ask_amply(ask, Call::Pairs { left: &left, right: &right, pairs: &pairs[..2] });
+            ask_amply(ask, Call::Pairs { left: &left, right: &right, pairs: &pairs });
         }
     }
 }

@@ -33,10 +33,7 @@ fn step(model: &mut Model, elements: &mut Vec<Element>, random: &mut Random) {
 fn stored(model: &Model, elements: &[Element]) -> Stored {
     let signature: &Signature = model.signature();
     let relations = signature.relations().map(|(id, relation)| {
-        let rows = model
-            .tuples(id)
-            .expect("a relation")
-            .map(|row| row.iter().map(|e| e.index as u8).collect());
+        let rows = model.tuples(id).expect("a relation").map(|row| row.iter().map(|e| e.index as u8).collect());
         super::relation(&vec![0; relation.arity.len()], rows.collect::<Vec<_>>())
     });
     Stored {

@@ -29,15 +29,7 @@ pub fn roots(n: usize) -> Vec<Vec<u8>> {
 /// Models of n elements of one type, each under all representatives.
 pub fn rooted(models: impl Iterator<Item = Stored>, n: usize) -> Vec<Stored> {
     let roots = roots(n);
-    let under_all = |model: Stored| {
-        roots
-            .iter()
-            .map(move |roots| Stored {
-                roots: roots.clone(),
-                ..model.clone()
-            })
-            .collect::<Vec<_>>()
-    };
+    let under_all = |model: Stored| roots.iter().map(move |roots| Stored { roots: roots.clone(), ..model.clone() }).collect::<Vec<_>>();
     models.flat_map(under_all).collect()
 }
 
@@ -50,10 +42,7 @@ pub fn rooted_graphs(n: usize) -> Vec<Stored> {
 pub fn words(length: usize, letters: &[u8]) -> Vec<Vec<u8>> {
     let mut all = vec![vec![]];
     for _ in 0..length {
-        all = all
-            .iter()
-            .flat_map(|word| letters.iter().map(move |&letter| [word.as_slice(), &[letter]].concat()))
-            .collect();
+        all = all.iter().flat_map(|word| letters.iter().map(move |&letter| [word.as_slice(), &[letter]].concat())).collect();
     }
     all
 }

@@ -28,12 +28,7 @@ pub fn paley(q: usize) -> Stored {
 /// The squares of a board with k rows and k lines, linked if a rook goes from one to the other.
 pub fn rook(k: usize) -> Stored {
     let linked = |a: usize, b: usize| a != b && (a / k == b / k || a % k == b % k);
-    graph(
-        k * k,
-        (0..k.pow(4))
-            .map(|place| (place / (k * k), place % (k * k)))
-            .filter(|&(a, b)| linked(a, b)),
-    )
+    graph(k * k, (0..k.pow(4)).map(|place| (place / (k * k), place % (k * k))).filter(|&(a, b)| linked(a, b)))
 }
 
 /// The graph of Shrikhande, whose counts are those of the rook's graph on 4 by 4.
@@ -58,23 +53,16 @@ pub fn k33() -> Edges {
 
 /// The edges of the cube.
 pub fn cube() -> Edges {
-    (
-        8,
-        (0..8)
-            .flat_map(|b: usize| (0..b).filter(move |a| (a ^ b).is_power_of_two()).map(move |a| (a, b)))
-            .collect(),
-    )
+    (8, (0..8).flat_map(|b: usize| (0..b).filter(move |a| (a ^ b).is_power_of_two()).map(move |a| (a, b))).collect())
 }
 
-/// Two elements for each edge, linked to each other, and for each vertex one element for every even set of its edges (at a twisted vertex 0: every odd one),
-/// linked to one of each edge's two. Refinement does not tell the twisted model from the other; they are not isomorphic.
+/// Two elements for each edge, linked to each other, and for each vertex one element for every even set of its edges (at a twisted vertex 0: every
+/// odd one), linked to one of each edge's two. Refinement does not tell the twisted model from the other; they are not isomorphic.
 pub fn cfi((vertices, edges): &Edges, twisted: bool) -> Stored {
     let mut rows: Vec<_> = (0..edges.len()).map(|edge| (2 * edge, 2 * edge + 1)).collect();
     let mut next = 2 * edges.len();
     for vertex in 0..*vertices {
-        let own: Vec<_> = (0..edges.len())
-            .filter(|&edge| edges[edge].0 == vertex || edges[edge].1 == vertex)
-            .collect();
+        let own: Vec<_> = (0..edges.len()).filter(|&edge| edges[edge].0 == vertex || edges[edge].1 == vertex).collect();
         let odd = u32::from(twisted && vertex == 0);
         for set in (0..1usize << own.len()).filter(|set| set.count_ones() % 2 == odd) {
             rows.extend(own.iter().enumerate().map(|(bit, edge)| (next, 2 * edge + (set >> bit & 1))));
@@ -84,7 +72,8 @@ pub fn cfi((vertices, edges): &Edges, twisted: bool) -> Stored {
     graph(next, rows.into_iter().flat_map(|(a, b)| [(a, b), (b, a)]))
 }
 
-/// A prescription of 50 elements: 2 ears, 8 programs, 40 bands. Of each program its ear, of each band its program, and of each band the next in its program.
+/// A prescription of 50 elements: 2 ears, 8 programs, 40 bands. Of each program its ear, of each band its program, and of each band the next in its
+/// program.
 pub fn prescription() -> Stored {
     let ears = (0..8).map(|program| vec![2 + program, program % 2]).collect();
     let programs = (0..40).map(|band| vec![10 + band, 2 + band / 5]).collect();

@@ -11,21 +11,14 @@ use crate::stored::{Relation, Stored};
 pub fn model(types: &[u8], relations: &[(&[u8], Vec<Vec<u8>>)]) -> Stored {
     let n: u8 = types.iter().sum();
     let relations = relations.iter().map(|(columns, rows)| relation(columns, rows.clone()));
-    Stored {
-        types: types.to_vec(),
-        roots: (0..n).collect(),
-        relations: relations.collect(),
-    }
+    Stored { types: types.to_vec(), roots: (0..n).collect(), relations: relations.collect() }
 }
 
 /// A relation with its rows put in order, each once.
 pub fn relation(columns: &[u8], mut rows: Vec<Vec<u8>>) -> Relation {
     rows.sort_unstable();
     rows.dedup();
-    Relation {
-        columns: columns.to_vec(),
-        rows,
-    }
+    Relation { columns: columns.to_vec(), rows }
 }
 
 /// One type and one relation of two columns.
@@ -54,11 +47,7 @@ pub fn renumbered(model: &Stored, to: &[u8]) -> Stored {
     }
     let rows = |rows: &[Vec<u8>]| rows.iter().map(|row| row.iter().map(new).collect()).collect();
     let relations = model.relations.iter().map(|old| relation(&old.columns, rows(&old.rows)));
-    Stored {
-        types: model.types.clone(),
-        roots,
-        relations: relations.collect(),
-    }
+    Stored { types: model.types.clone(), roots, relations: relations.collect() }
 }
 
 /// The same model under other numbers, drawn.
@@ -71,8 +60,5 @@ pub fn canonical(model: &Stored) -> Stored {
     let root = |entry: &u8| model.roots[usize::from(*entry)];
     let rows = |rows: &[Vec<u8>]| rows.iter().map(|row| row.iter().map(root).collect()).collect();
     let relations = model.relations.iter().map(|old| relation(&old.columns, rows(&old.rows)));
-    Stored {
-        relations: relations.collect(),
-        ..model.clone()
-    }
+    Stored { relations: relations.collect(), ..model.clone() }
 }

@@ -13,21 +13,9 @@ pub struct Size {
 }
 
 /// Few elements, so that many things coincide.
-pub const SMALL: Size = Size {
-    types: 2,
-    elements: 6,
-    relations: 2,
-    columns: 3,
-    cells: 24,
-};
+pub const SMALL: Size = Size { types: 2, elements: 6, relations: 2, columns: 3, cells: 24 };
 /// All that a file may hold.
-pub const ANY: Size = Size {
-    types: 16,
-    elements: MOST_ELEMENTS,
-    relations: 16,
-    columns: 8,
-    cells: MOST_CELLS,
-};
+pub const ANY: Size = Size { types: 16, elements: MOST_ELEMENTS, relations: 16, columns: 8, cells: MOST_CELLS };
 
 /// A model of up to this size. `merges`: whether elements may be aliases, rows holding them.
 pub fn drawn(size: &Size, merges: bool, random: &mut Random) -> Stored {
@@ -38,11 +26,7 @@ pub fn drawn(size: &Size, merges: bool, random: &mut Random) -> Stored {
             types[random.below(few)] += 1;
         }
     }
-    let mut model = Stored {
-        roots: (0..types.iter().sum()).collect(),
-        types,
-        relations: vec![],
-    };
+    let mut model = Stored { roots: (0..types.iter().sum()).collect(), types, relations: vec![] };
     if merges {
         model.roots = drawn_roots(&model, random);
     }
@@ -62,9 +46,7 @@ pub fn drawn_canonical(size: &Size, random: &mut Random) -> Stored {
 }
 
 fn elements_of(model: &Stored, type_: u8) -> Vec<u8> {
-    (0..model.n() as u8)
-        .filter(|&e| model.type_of(usize::from(e)) == usize::from(type_))
-        .collect()
+    (0..model.n() as u8).filter(|&e| model.type_of(usize::from(e)) == usize::from(type_)).collect()
 }
 
 /// Some elements are made aliases of another of their type.
@@ -92,25 +74,43 @@ fn drawn_relation(model: &Stored, columns: usize, cells: usize, random: &mut Ran
     relation(&columns, rows)
 }
 
-/// The model with one row of one relation drawn anew; the same if it has no row with a cell.
+/// The model with one entry of one row drawn anew; the same if it has no row with a cell.
 pub fn with_another_row(model: &Stored, random: &mut Random) -> Stored {
     let mut changed = model.clone();
-    let relations: Vec<_> = (0..model.relations.len())
-        .filter(|&r| !model.relations[r].rows.is_empty() && !model.relations[r].columns.is_empty())
-        .collect();
-    if relations.is_empty() {
-        return changed;
+    if let Some((number, place, row)) = near_row(model, random) {
+        let old = &mut changed.relations[number];
+        old.rows[place] = row;
+        *old = relation(&old.columns, old.rows.clone());
     }
-    let old = &mut changed.relations[*random.of(&relations)];
-    let row = random.below(old.rows.len());
-    let column = random.below(old.columns.len());
-    let all: Vec<_> = elements_of(model, old.columns[column])
-        .into_iter()
-        .filter(|&e| model.is_representative(usize::from(e)))
-        .collect();
-    old.rows[row][column] = *random.of(&all);
-    *old = relation(&old.columns, old.rows.clone());
     changed
+}
+
+/// The model with a row more that is like one of its own but for an entry; the same if there is none, or no cells are left.
+pub fn with_a_row_more(model: &Stored, random: &mut Random) -> Stored {
+    let mut changed = model.clone();
+    if let Some((number, _, row)) = near_row(model, random).filter(|(_, _, row)| model.cells() + row.len() <= MOST_CELLS) {
+        let old = &mut changed.relations[number];
+        old.rows.push(row);
+        *old = relation(&old.columns, old.rows.clone());
+    }
+    changed
+}
+
+/// A relation's number, a row's place in it, and that row with one entry drawn anew among the representatives of its type.
+fn near_row(model: &Stored, random: &mut Random) -> Option<(usize, usize, Vec<u8>)> {
+    let has_cells = |number: &usize| !model.relations[*number].rows.is_empty() && !model.relations[*number].columns.is_empty();
+    let numbers: Vec<_> = (0..model.relations.len()).filter(has_cells).collect();
+    if numbers.is_empty() {
+        return None;
+    }
+    let number = *random.of(&numbers);
+    let relation = &model.relations[number];
+    let place = random.below(relation.rows.len());
+    let column = random.below(relation.columns.len());
+    let mut row = relation.rows[place].clone();
+    let all: Vec<_> = elements_of(model, relation.columns[column]).into_iter().filter(|&e| model.is_representative(usize::from(e))).collect();
+    row[column] = *random.of(&all);
+    Some((number, place, row))
 }
 
 /// A model of one type of 64 elements with one relation, of 2,048 cells.

@@ -1,5 +1,5 @@
-//! Models of the original from what a stored model says, through its own `Model::from_parts`, which keeps element numbers, representatives and rows as they
-//! are given and finds out whether the model is canonical.
+//! Models of the original from what a stored model says, through its own `Model::from_parts`, which keeps element numbers, representatives and rows
+//! as they are given and finds out whether the model is canonical.
 use crate::data::{RelationData, TypeData};
 use crate::{Model, Relation, RelationId, RelationKind, Signature, Type, TypeId, TypeKind};
 use std::cell::RefCell;
@@ -11,23 +11,17 @@ thread_local! {
     static SIGNATURES: RefCell<HashMap<(usize, Columns), &'static Signature>> = RefCell::new(HashMap::new());
 }
 
-/// The signature with so many types and these columns of each relation; equal ones are the same instance. Names follow from the place, kinds are plain, and
-/// there are no parents, so that two signatures are equal exactly if document 01's are.
+/// The signature with so many types and these columns of each relation; equal ones are the same instance. Names follow from the place, kinds are
+/// plain, and there are no parents, so that two signatures are equal exactly if document 01's are.
 pub fn signature(types: usize, columns: &Columns) -> &'static Signature {
     SIGNATURES.with(|known| {
         let mut known = known.borrow_mut();
-        *known
-            .entry((types, columns.clone()))
-            .or_insert_with(|| Box::leak(Box::new(new_signature(types, columns))))
+        *known.entry((types, columns.clone())).or_insert_with(|| Box::leak(Box::new(new_signature(types, columns))))
     })
 }
 
 fn new_signature(types: usize, columns: &Columns) -> Signature {
-    let types = (0..types).map(|i| Type {
-        name: format!("T{i}"),
-        kind: TypeKind::Plain,
-        parents: vec![],
-    });
+    let types = (0..types).map(|i| Type { name: format!("T{i}"), kind: TypeKind::Plain, parents: vec![] });
     let relations = columns.iter().enumerate().map(|(i, columns)| Relation {
         name: format!("R{i}"),
         kind: RelationKind::Predicate,

@@ -1,5 +1,5 @@
-//! The original: `model_hom.rs` of eqlog-runtime and the files beside it, compiled unchanged from where they stand, over stand-ins of ours for the modules
-//! that are not among them: the prefix trees and the weight-balanced map (`trees`, `wbtree`), and the items of its `lib.rs` (`values`).
+//! The original: `model_hom.rs` of eqlog-runtime and the files beside it, compiled unchanged from where they stand, over stand-ins of ours for the
+//! modules that are not among them: the prefix trees and the weight-balanced map (`trees`, `wbtree`), and the items of its `lib.rs` (`values`).
 #![allow(dead_code)]
 
 mod assemble;

@@ -47,9 +47,7 @@ impl PrefixTree1 {
         self.set.iter().map(|&x| [x])
     }
     pub fn union(&self, other: &Self) -> Self {
-        Self {
-            set: self.set.union(&other.set).copied().collect(),
-        }
+        Self { set: self.set.union(&other.set).copied().collect() }
     }
 }
 
