@@ -167,6 +167,11 @@ impl Port {
             && rest.iter().all(|&byte| byte == UNTOUCHED)
             && self.state_of_work(lent) == if decided { "zero" } else { "same" }
     }
+
+    /// Whether the port answered 2 with all of the budget used, its output as before and its work cleared.
+    pub fn is_exhausted(&self, call: &Call, lent: Lent) -> bool {
+        self.carried[0] == lent.budget && self.said(call, lent, &Answer { number: 2, carried: vec![], map: None })
+    }
 }
 
 type Out = (*mut u8, usize);

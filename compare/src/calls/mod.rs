@@ -51,6 +51,9 @@ fn ask_amply(ask: Ask, call: Call) {
     ask(&call, lent);
 }
 
+/// With fewer calls than these the comparison says too little.
+const LEAST: u64 = 1_000_000;
+
 /// How many differences of a family are shown.
 const SHOWN: u64 = 5;
 
@@ -82,7 +85,7 @@ pub fn run() -> bool {
     let as_listed = intended.iter().filter(|(_, holds)| *holds).count();
     println!("intended differences: {}, {as_listed} as listed", intended.len());
     println!("{} calls, {} differ", all.calls, all.differ);
-    all.differ == 0 && other == 0 && as_listed == intended.len()
+    all.calls >= LEAST && all.differ == 0 && other == 0 && as_listed == intended.len()
 }
 
 /// Says what came of a family, and adds it to the whole.
@@ -94,11 +97,11 @@ fn say(name: &str, all: &mut Count, count: Count) {
     all.differ += count.differ;
 }
 
-/// Makes a call on both sides. Where the port answers 2, within the budget and with its work cleared, the call is outside the comparison.
+/// Makes a call on both sides. Where the port answers 2, as it should when all units are used, the call is outside the comparison.
 fn compare(port: &mut Port, count: &mut Count, call: &Call, lent: Lent) {
     port.reset();
     port.ask(call, lent);
-    if call.searches() && port.number == 2 {
+    if call.searches() && port.is_exhausted(call, lent) {
         count.exhausted += 1;
         return;
     }
