@@ -1,4 +1,6 @@
 pub mod Rows
+pub mod Packed
+pub mod Canonical
 pub mod Maps
 pub mod Pairs
 pub mod Answer

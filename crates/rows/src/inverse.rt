@@ -20,7 +20,8 @@ use crate::files::Verdict;
 use crate::files::read_two;
 use crate::maps::is_map;
 use crate::maps::is_rep;
-use crate::rows::normal_count;
+use crate::packed::rows_counted;
+use stored::canonical::is_canonical;
 use stored::layout::Layout;
 use stored::refusal::Refusal;
 use stored::signature::same_signature;
@@ -85,17 +86,21 @@ fn same_counts(source: &[u8], in_source: Layout, target: &[u8], in_target: Layou
     let other_roots_end = other_roots_start + in_target.size;
     let roots = &source[roots_start..roots_end];
     let other_roots = &target[other_roots_start..other_roots_end];
+    let plain = is_canonical(source, in_source);
+    let other_plain = is_canonical(target, in_target);
     let mut k: usize = 0;
     while k < relations {
         let start = in_source.rows[k];
         let other_start = in_target.rows[k];
-        let n = normal_count(
+        let n = rows_counted(
+            plain,
             roots,
             &source[start..],
             in_source.arity[k],
             in_source.count[k],
         );
-        let other_n = normal_count(
+        let other_n = rows_counted(
+            other_plain,
             other_roots,
             &target[other_start..],
             in_target.arity[k],

@@ -11,5 +11,6 @@ pub mod files;
 pub mod identity;
 pub mod inverse;
 pub mod maps;
+pub mod packed;
 pub mod pairs;
 pub mod rows;

@@ -11,6 +11,8 @@ ghost use Rattle.lists.specs.Part.{rowsOf, over};
 ghost use Rattle.stored.specs.Signature.{signature, sameSignature};
 ghost use Rattle.stored.specs.Reading.{Reads, modelOf};
 ghost use Rattle.rows.specs.Rows.{through, hasRow, firstUnkeptBy, rowsKept};
+use crate::packed::rows_among;
+use stored::canonical::is_canonical;
 use stored::layout::Layout;
 
 // What a table says of an entry; 255 where it has none.
@@ -128,6 +130,7 @@ pub(crate) fn first_unkept(
     let roots_start = in_target.roots;
     let roots_end = roots_start + in_target.size;
     let roots = &target[roots_start..roots_end];
+    let plain = is_canonical(target, in_target);
     let mut k: usize = 0;
     while k < relations {
         let start = in_source.rows[k];
@@ -135,10 +138,11 @@ pub(crate) fn first_unkept(
         let other_start = in_target.rows[k];
         let other_count = in_target.count[k];
         let arity = in_source.arity[k];
-        if !rows_kept(
+        if !rows_among(
             images,
             &source[start..],
             count,
+            plain,
             roots,
             &target[other_start..],
             other_count,
