@@ -6,4 +6,5 @@ pub mod Counts
 pub mod Classes
 pub mod Single
 pub mod Members
+pub mod Small
 pub mod Starting

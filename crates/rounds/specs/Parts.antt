@@ -1,7 +1,8 @@
 -- What functions on parts of a file answer: the first colours, the representatives and their colours by the types and the roots in place of a model,
 -- and counts and classes by the lists of those colours.
 use Prim.Native.Nat.{ℕ, _+_}
-use mathlib.Core.Bool.{Bool, true, false, _&&_}
+use mathlib.Core.Path.{_≡_}
+use mathlib.Core.Bool.{Bool, true, false, not, _&&_}
 use mathlib.Core.List.{List, map}
 use lib.ListN.{length, getD}
 use lib.Dec.{eqb, ltb}
@@ -50,12 +51,19 @@ rightColourIn types roots left partners y = elim (isRepIn roots y) [
   ]
 ]
 
--- whether a colour stands as often in one list as in another, and whether each colour of the one does
-unfoldable pub sameCount : List ℕ → List ℕ → ℕ → Bool
-sameCount one other k = eqb (howMany (eqb k) one) (howMany (eqb k) other)
+-- whether colours are below 128, so that a table of 128 entries counts them: first colours are at most 16 types and 64 pairs, a round's at most the keys of 64
+-- elements on each side
+unfoldable pub areSmall : List ℕ → Bool
+areSmall colours = all (λ (k : ℕ). ltb k 128) colours
 
-unfoldable pub sameCounts : List ℕ → List ℕ → Bool
-sameCounts one other = all (sameCount one other) one
+-- a table of 128 entries that holds for each colour how often it stands among some
+pub record CountsOf (table colours : List ℕ) : Type 0 where
+  pub room : length table ≡ 128
+  pub counts : (k : ℕ) → getD table k 0 ≡ howMany (eqb k) colours
+
+-- whether an entry of a table is not 0
+unfoldable pub isFilled : List ℕ → ℕ → Bool
+isFilled table k = not (eqb (getD table k 0) 0)
 
 -- the smallest open class of the colours from k on, given that of those after k
 unfoldable pub smallestWith : List ℕ → ℕ → Open → Open

@@ -1,17 +1,20 @@
 // Classes of one colour: the smallest that is open, the lowest element of one.
 ghost use mathlib.Core.Path.{_≡_};
-ghost use Prim.Native.Nat.{_≤_};
+ghost use mathlib.Core.Bool.{true};
+ghost use mathlib.Core.List.{List};
+ghost use Prim.Native.Nat.{ℕ, _≤_};
 ghost use lib.ListN.{length};
 ghost use Rattle.lists.specs.First.{lowest};
 ghost use Rattle.stored.specs.Limits.{maxElements};
 ghost use Rattle.stored.specs.Model.{size};
 ghost use Rattle.stored.specs.Reading.{Reads, modelOf};
-ghost use Rattle.rounds.specs.Round.{reps};
+ghost use Rattle.rounds.specs.Round.{reps, coloursOf};
 ghost use Rattle.rounds.specs.Classes.{openOf, smallestFrom, smallestOpen, lowestOf};
-ghost use Rattle.rounds.specs.Parts.{repsIn, coloursIn, hasColour, smallestWith};
+ghost use Rattle.rounds.specs.Parts.{repsIn, coloursIn, areSmall, CountsOf, hasColour, smallestWith};
 use crate::colour::Colour;
 use crate::colours::colour_at;
-use crate::counts::how_many;
+use crate::counts::count_at;
+use crate::counts::counts_in;
 use rows::maps::is_rep;
 use stored::layout::Layout;
 
@@ -46,18 +49,18 @@ pub fn class_count(s: &[u8], layout: Layout) -> usize
     rep_count(&s[start..end])
 }
 
-// The smallest open class of the colours from k on, given that of those after k. Of two as large the first is taken.
-fn smallest_with(roots: &[u8], colours: &[u16], k: u16, later: Open) -> Open
-    ensures { λ r. ⌜ openOf r ≡ smallestWith (coloursIn (now (roots .entry)) (now (colours .entry))) k (openOf later) ⌝ }
+// The smallest open class of the colours from k on, given how many have each and that of those after k. Of two as large the first is taken.
+fn smallest_with(table: &[u8], k: u16, later: Open) -> Open
+    ensures { λ r. ⌜ ((colours : List ℕ) → CountsOf (now (table .entry)) colours → openOf r ≡ smallestWith colours k (openOf later)) ⌝ }
 {
-    let n = how_many(roots, colours, k);
+    let n = count_at(table, k);
     if n < 2 {
         return later;
     }
     match later {
         Open::AllSingle => Open::At(Colour(k)),
         Open::At(other) => {
-            let other_n = how_many(roots, colours, other.0);
+            let other_n = count_at(table, other.0);
             if n <= other_n {
                 return Open::At(Colour(k));
             }
@@ -68,14 +71,15 @@ fn smallest_with(roots: &[u8], colours: &[u16], k: u16, later: Open) -> Open
 
 // The smallest open class of one side, the colours taken from the highest down.
 fn smallest_in(roots: &[u8], colours: &[u16]) -> Open
-    requires { ⌜ length (now roots) ≤ maxElements ⌝ }
+    requires { ⌜ (length (now roots) ≤ maxElements) × (areSmall (coloursIn (now roots) (now colours)) ≡ true) ⌝ }
     ensures { λ r. ⌜ openOf r ≡ smallestFrom (coloursIn (now (roots .entry)) (now (colours .entry))) 0 (length (coloursIn (now (roots .entry)) (now (colours .entry)))) ⌝ }
 {
+    let counts = counts_in(roots, colours);
     let mut answer = Open::AllSingle;
     let mut k = rep_count(roots);
     while 0 < k {
         k -= 1;
-        let with_k = smallest_with(roots, colours, k as u16, answer);
+        let with_k = smallest_with(&counts, k as u16, answer);
         answer = with_k;
     }
     answer
@@ -83,7 +87,7 @@ fn smallest_in(roots: &[u8], colours: &[u16]) -> Open
 
 // The smallest class with two or more members, of those as large that of the lowest colour.
 pub fn smallest_open(s: &[u8], layout: Layout, colours: &[u16]) -> Open
-    requires { ⌜ Reads (now s) layout × (length (now colours) ≡ size (modelOf (now s))) ⌝ }
+    requires { ⌜ Reads (now s) layout × (length (now colours) ≡ size (modelOf (now s))) × (areSmall (coloursOf (modelOf (now s)) (now colours)) ≡ true) ⌝ }
     ensures { λ r. ⌜ openOf r ≡ smallestOpen (modelOf (now (s .entry))) (now (colours .entry)) ⌝ }
 {
     let start = layout.roots;

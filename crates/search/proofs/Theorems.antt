@@ -12,6 +12,7 @@ pub mod Potential
 pub mod Bound
 pub mod Partners
 pub mod Start
+pub mod Small
 pub mod Asked
 pub mod Found
 pub mod Never

@@ -12,7 +12,8 @@ use Rattle.lists.specs.Numbers.{upFrom}
 use Rattle.lists.specs.Part.{part, over}
 use Rattle.stored.specs.Model.{Model, size, isRep}
 use Rattle.rounds.specs.Colours.{colourAt}
-use Rattle.rounds.specs.Round.{Sides}
+use Rattle.rounds.specs.Round.{Sides, coloursOf}
+use Rattle.rounds.specs.Parts.{areSmall}
 use Rattle.search.specs.declared.machine.Phase.{Phase}
 use Rattle.search.specs.declared.machine.Phase.the-variants as phase
 use Rattle.rounds.specs.Classes.{smallestOpen}
@@ -63,6 +64,10 @@ sidesIn a b c = record { left = take (size a) (getD c 0 []); right = take (size 
 -- two rows of 64
 abbrev pub Rows : List (List ℕ) → Type 0
 Rows c = (length c ≡ 2) × (length (getD c 0 []) ≡ 64) × (length (getD c 1 []) ≡ 64)
+
+-- colours of both sides that are below 128
+abbrev pub SmallSides : Model → Model → Sides → Type 0
+SmallSides a b c = (areSmall (coloursOf a (c .left)) ≡ true) × (areSmall (coloursOf b (c .right)) ≡ true)
 
 -- the state of a phase, with its colours and its open choices
 unfoldable pub stateOf : Phase → Sides → List Choice → State

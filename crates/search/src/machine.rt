@@ -10,8 +10,9 @@ ghost use Rattle.stored.specs.Canonical.{canonical};
 ghost use Rattle.stored.specs.Signature.{signature, sameSignature};
 ghost use Rattle.stored.specs.Reading.{Reads, modelOf};
 ghost use Rattle.rounds.specs.Colours.{leftColours, rightColours};
-ghost use Rattle.rounds.specs.Round.{colourCount, roundOutcome};
+ghost use Rattle.rounds.specs.Round.{coloursOf, colourCount, roundOutcome};
 ghost use Rattle.rounds.specs.Classes.{smallestOpen};
+ghost use Rattle.rounds.specs.Parts.{areSmall};
 ghost use Rattle.rounds.specs.Board.{boardRoom, Board};
 ghost use Rattle.search.specs.Partners.{PartnersOf};
 ghost use Rattle.search.specs.Machine.{mapOf, afterStable, afterRound};
@@ -19,7 +20,7 @@ ghost use Rattle.search.specs.Machine as machine;
 ghost use Rattle.search.specs.Answer.{answerOf, written, cleared, workRoom, ended};
 ghost use Rattle.search.specs.Find.{roundCost, startFrom};
 ghost use Rattle.search.specs.Find as calls;
-ghost use Rattle.search.specs.Choices.{choiceLength, choicesOn, choicesIn, sidesIn, stateOf, Rows, writtenIf, Settled};
+ghost use Rattle.search.specs.Choices.{choiceLength, choicesOn, choicesIn, sidesIn, stateOf, Rows, SmallSides, writtenIf, Settled};
 use crate::answer::Answer;
 use crate::choices::open_choice;
 use crate::choices::reopen;
@@ -68,7 +69,7 @@ fn settle(
     choices: &mut [u16],
     depth: usize,
 ) -> Turn
-    requires { ⌜ Reads (now left) «in_left» × (length (now row) ≡ size (modelOf (now left))) × (length (now other) ≤ maxElements) × (count ≡ colourCount (modelOf (now left)) (now row)) × (depth * choiceLength + choiceLength ≤ length (now choices)) ⌝ }
+    requires { ⌜ Reads (now left) «in_left» × (length (now row) ≡ size (modelOf (now left))) × (length (now other) ≤ maxElements) × (count ≡ colourCount (modelOf (now left)) (now row)) × (depth * choiceLength + choiceLength ≤ length (now choices)) × (areSmall (coloursOf (modelOf (now left)) (now row)) ≡ true) ⌝ }
     ensures { λ r. ⌜ Settled (modelOf (now (left .entry))) (now (row .entry)) (now (other .entry)) (now (choices .entry)) depth (r .phase) (r .depth) (now (choices .exit)) ⌝ }
 {
     match smallest_open(left, in_left, row) {
@@ -98,7 +99,7 @@ fn refine(
     work: &mut [u16],
     depth: usize,
 ) -> Turn
-    requires { ⌜ Reads (now left) «in_left» × Reads (now right) «in_right» × (sameSignature (signature (modelOf (now left))) (signature (modelOf (now right))) ≡ true) × Board (modelOf (now left)) (modelOf (now right)) cells (take boardRoom (now work)) × (workRoom ≤ length (now work)) × (depth < maxElements) × Rows (now colours) ⌝ }
+    requires { ⌜ Reads (now left) «in_left» × Reads (now right) «in_right» × (sameSignature (signature (modelOf (now left))) (signature (modelOf (now right))) ≡ true) × Board (modelOf (now left)) (modelOf (now right)) cells (take boardRoom (now work)) × (workRoom ≤ length (now work)) × (depth < maxElements) × Rows (now colours) × SmallSides (modelOf (now left)) (modelOf (now right)) (sidesIn (modelOf (now left)) (modelOf (now right)) (now colours)) ⌝ }
     ensures state { λ r. ⌜ stateOf (r .phase) (sidesIn (modelOf (now (left .entry))) (modelOf (now (right .entry))) (now (colours .exit))) (choicesIn (modelOf (now (left .entry))) (modelOf (now (right .entry))) (choicesOn (now (work .exit))) (r .depth)) ≡ afterRound (modelOf (now (left .entry))) (modelOf (now (right .entry))) (choicesIn (modelOf (now (left .entry))) (modelOf (now (right .entry))) (choicesOn (now (work .entry))) depth) (roundOutcome (modelOf (now (left .entry))) (modelOf (now (right .entry))) (sidesIn (modelOf (now (left .entry))) (modelOf (now (right .entry))) (now (colours .entry)))) ⌝ }
     ensures kept { λ r. ⌜ Board (modelOf (now (left .entry))) (modelOf (now (right .entry))) cells (take boardRoom (now (work .exit))) × Rows (now (colours .exit)) × (r .depth ≤ depth + 1) × (length (now (work .exit)) ≡ length (now (work .entry))) × (drop workRoom (now (work .exit)) ≡ drop workRoom (now (work .entry))) ⌝ }
 {
@@ -218,7 +219,7 @@ fn run(
     out: &mut [u8],
     work: &mut [u16],
 ) -> Answer
-    requires { ⌜ Reads (now left) «in_left» × Reads (now right) «in_right» × (sameSignature (signature (modelOf (now left))) (signature (modelOf (now right))) ≡ true) × (canonical (modelOf (now right)) ≡ true) × Board (modelOf (now left)) (modelOf (now right)) cells (take boardRoom (now work)) × Rows start × (size (modelOf (now left)) ≤ length (now out)) × (workRoom ≤ length (now work)) ⌝ }
+    requires { ⌜ Reads (now left) «in_left» × Reads (now right) «in_right» × (sameSignature (signature (modelOf (now left))) (signature (modelOf (now right))) ≡ true) × (canonical (modelOf (now right)) ≡ true) × Board (modelOf (now left)) (modelOf (now right)) cells (take boardRoom (now work)) × Rows start × (size (modelOf (now left)) ≤ length (now out)) × (workRoom ≤ length (now work)) × SmallSides (modelOf (now left)) (modelOf (now right)) (sidesIn (modelOf (now left)) (modelOf (now right)) start) ⌝ }
     ensures answer { λ r. ⌜ r ≡ answerOf (ended (machine.run budget roundCost (modelOf (now (left .entry))) (modelOf (now (right .entry))) budget 0 (machine.refine (sidesIn (modelOf (now (left .entry))) (modelOf (now (right .entry))) start) []))) ⌝ }
     ensures output { λ _. ⌜ now (out .exit) ≡ written (ended (machine.run budget roundCost (modelOf (now (left .entry))) (modelOf (now (right .entry))) budget 0 (machine.refine (sidesIn (modelOf (now (left .entry))) (modelOf (now (right .entry))) start) []))) (now (out .entry)) ⌝ }
     ensures work { λ _. ⌜ (length (now (work .exit)) ≡ length (now (work .entry))) × (drop workRoom (now (work .exit)) ≡ drop workRoom (now (work .entry))) ⌝ }

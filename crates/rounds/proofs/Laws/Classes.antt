@@ -2,16 +2,11 @@
 use Prim.Native.Nat.{ℕ, suc, _<_, _≤_}
 use mathlib.Core.Path.{_≡_, refl}
 use mathlib.Core.List.{List}
-use native.Mathlib.Omega.{arith}
 use borrow.Author.Tests.{lt-ltb, le-ltb, le-leb, lt-leb}
 use lib.Dec.{eqb}
 use lib.ListN.{length, length-map}
 use Rattle.lists.specs.Every.{howMany}
-use Rattle.lists.specs.Numbers.{upFrom}
-use Rattle.lists.proofs.Laws.Different.{keep-fits}
-use Rattle.lists.proofs.Laws.Numbers.{length-upFrom}
 use Rattle.stored.specs.declared.layout.Layout.{Layout}
-use Rattle.stored.specs.Model.{isRepIn}
 use Rattle.stored.specs.Reading.{Reads, modelOf}
 use Rattle.rows.proofs.Laws.Given.{rootsIn}
 use Rattle.rounds.specs.declared.colour.Colour.{Colour}
@@ -57,15 +52,10 @@ pub from-none : (colours : List ℕ) (k : ℕ) → smallestFrom colours k 0 ≡ 
 unfolding smallestFrom
 from-none colours k = refl
 
--- the colours are as many as the representatives, no more than the elements
-module _ (roots colours : List ℕ) where
-  pub colours-count : length (coloursIn roots colours) ≡ length (repsIn roots)
-  unfolding coloursBelow
-  colours-count = length-map (repsBelow roots (length roots)) (colourAt colours)
-
-  pub reps-fit : length (repsIn roots) ≤ length roots
-  unfolding repsBelow
-  reps-fit = omega (arith, keep-fits (isRepIn roots) (upFrom 0 (length roots)), length-upFrom 0 (length roots))
+-- the colours are as many as the representatives
+pub colours-count : (roots colours : List ℕ) → length (coloursIn roots colours) ≡ length (repsIn roots)
+unfolding coloursBelow
+colours-count roots colours = length-map (repsBelow roots (length roots)) (colourAt colours)
 
 -- what is handed on of a file that was read
 module _ (s : List ℕ) (l : Layout) (reads : Reads s l) where

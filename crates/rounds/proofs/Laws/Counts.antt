@@ -1,82 +1,185 @@
--- The laws of counts of colours: two sides compared each way are compared at all colours of both, a count of 0 says that a colour is not there, and
--- what is counted by the parts of a file is counted of the model that was read. Assumes nothing.
-use Prim.Native.Nat.{ℕ}
-use mathlib.Core.Path.{_≡_, sym, _∙_, ap}
-use mathlib.Core.Logic.{_⊎_, inl, inr}
-use mathlib.Core.Bool.{Bool, true, false, _&&_}
-use mathlib.Core.List.{List, _++_, List·Memᴰ, Memᴰ·append-left, Memᴰ·append-right, List·Memᴰ·append-cases}
+-- The laws of counts of colours: a table that counts some counts one more, two tables are the same where each colour stands as often, as many entries
+-- are not 0 as there are different colours, and what is counted by the parts of a file is counted of the model that was read. Assumes nothing.
+use Prim.Native.Nat.{ℕ, zero, suc, _+_, _<_, _≤_, zero-le}
+use mathlib.Core.Path.{_≡_, refl, sym, _∙_, ap, subst}
+use mathlib.Core.Logic.{_⊎_, inl, inr, by-cases}
+use mathlib.Core.Bool.{Bool, true, false, not}
+use mathlib.Core.List.{List, [], _∷_, _++_, List·Memᴰ}
 use native.Mathlib.Omega.{arith}
-use borrow.Author.Tests.{eqb-true, eq-eqb}
-use lib.Dec.{eqb}
-use lib.ListN.{length}
-use Rattle.lists.specs.Every.{all, any, howMany}
+use native.Mathlib.Decide.{ℕ-discrete, decLe}
+use borrow.Author.Tests.{eqb-true, eqb-false, eq-eqb, ne-eqb, ltb-true, lt-ltb, not-true}
+use lib.Dec.{eqb, ltb}
+use lib.ListN.{length, getD, set, replicate, length-set, length-replicate, getD-replicate, List·getD-eq-default}
+use lib.Seq.{getD-set-same, getD-set-other, ext-getD}
+use Rattle.lists.specs.Every.{all, keep, howMany}
 use Rattle.lists.specs.First.{firsts}
-use Rattle.lists.proofs.Laws.Tests.{split, and-left, and-right, and-both, same-test}
-use Rattle.lists.proofs.Laws.Every.{all-mem, mem-all, any-mem, mem-any}
-use Rattle.lists.proofs.Laws.Counting.{howMany-mem, howMany-some}
+use Rattle.lists.specs.Numbers.{upFrom}
+use Rattle.lists.specs.Order.{sameRow}
+use Rattle.lists.proofs.Laws.Tests.{split, same-test}
+use Rattle.lists.proofs.Laws.Every.{all-mem, mem-all, keep-none, keep-yes, keep-no, keep-mem, mem-keep}
+use Rattle.lists.proofs.Laws.Numbers.{upFrom-mem}
+use Rattle.lists.proofs.Laws.Order.{same-row, same-row-refl}
+use Rattle.lists.proofs.Laws.Sets.{keep-distinct, firsts-distinct, mem-firsts, firsts-mem}
+use Rattle.lists.proofs.Laws.Counting.{howMany-none, howMany-yes, howMany-no, howMany-append, howMany-mem, howMany-some, howMany-fits, distinct-fits, upFrom-distinct}
 use Rattle.stored.specs.declared.layout.Layout.{Layout}
 use Rattle.stored.specs.Reading.{Reads, modelOf}
 use Rattle.rows.proofs.Laws.Given.{rootsIn}
-use Rattle.rounds.specs.Round.{colourCount, equalCounts}
-use Rattle.rounds.specs.Parts.{coloursIn, sameCount, sameCounts}
+use Rattle.rounds.specs.Round.{coloursOf, colourCount, equalCounts}
+use Rattle.rounds.specs.Parts.{coloursIn, areSmall, CountsOf, isFilled}
 use Rattle.rounds.proofs.Laws.Parts.{colours-handed}
 
--- the order of two numbers does not matter
-pub eqb-either : (x y : ℕ) → eqb x y ≡ eqb y x
-eqb-either x y = same-test (eqb x y) (eqb y x) (λ e. eq-eqb y x (sym (eqb-true x y e))) (λ e. eq-eqb x y (sym (eqb-true y x e)))
+-- colours below 128
+module _ (colours : List ℕ) where
+  pub small-below : areSmall colours ≡ true → (k : ℕ) → List·Memᴰ k colours → k < 128
+  unfolding areSmall
+  small-below h k m = ltb-true k 128 (all-mem (λ (k : ℕ). ltb k 128) colours h k m)
+
+  pub below-small : ((k : ℕ) → List·Memᴰ k colours → k < 128) → areSmall colours ≡ true
+  unfolding areSmall
+  below-small f = mem-all (λ (k : ℕ). ltb k 128) colours (λ k m. lt-ltb k 128 (f k m))
+
+-- a colour that is counted is there, and one that is there is counted
+pub counted-there : (k : ℕ) (colours : List ℕ) → 0 < howMany (eqb k) colours → List·Memᴰ k colours
+counted-there k colours h =
+    let o = howMany-some (eqb k) colours h in
+    subst (λ (v : ℕ). List·Memᴰ v colours) (sym (eqb-true k (o .0) (o .2))) (o .1)
+
+pub there-counted : (k : ℕ) (colours : List ℕ) → List·Memᴰ k colours → 0 < howMany (eqb k) colours
+there-counted k colours m = howMany-mem (eqb k) colours k m (eq-eqb k k refl)
+
+-- entries that are not 0, and entries that are
+module _ (table : List ℕ) (k : ℕ) where
+  pub is-filled : (getD table k 0 ≡ 0 → ⊥) → isFilled table k ≡ true
+  unfolding isFilled
+  is-filled n = rw (ne-eqb (getD table k 0) 0 n)
+
+  pub is-empty : getD table k 0 ≡ 0 → isFilled table k ≡ false
+  unfolding isFilled
+  is-empty e = rw (eq-eqb (getD table k 0) 0 e)
+
+-- a table of zeros counts none
+pub counts-none : (table : List ℕ) → table ≡ replicate {A = ℕ} 128 0 → CountsOf table []
+counts-none table e = record {
+  room = ap length e ∙ length-replicate {A = ℕ} 128 0;
+  counts = λ k. ap (λ (t : List ℕ). getD t k 0) e ∙ zeros k ∙ sym (howMany-none (eqb k));
+}
+  where
+    zeros : (k : ℕ) → getD (replicate {A = ℕ} 128 0) k 0 ≡ 0
+    zeros k =
+        by-cases (decLe 128 k) (λ h. List·getD-eq-default (replicate 128 0) 0 {n = k} (omega (arith, h, length-replicate {A = ℕ} 128 0)))
+        (λ h. getD-replicate 128 k 0 0 (omega (arith, h)))
+
+-- a table that counts some colours
+module _ {table colours : List ℕ} (c : CountsOf table colours) where
+  pub count-fits : (k : ℕ) → getD table k 0 ≤ length colours
+  count-fits k = omega (arith, c .counts k, howMany-fits (eqb k) colours)
+
+  -- counts one more
+  pub counts-more : (k : ℕ) → k < 128 → CountsOf (set table k (getD table k 0 + 1)) (colours ++ k ∷ [])
+  counts-more k h = record {
+    room = length-set table k (getD table k 0 + 1) ∙ c .room;
+    counts = λ j. by-cases (ℕ-discrete j k) (here j) (there j);
+  }
+    where
+      more : (j : ℕ) → howMany (eqb j) (colours ++ k ∷ []) ≡ howMany (eqb j) colours + howMany (eqb j) (k ∷ [])
+      more j = howMany-append (eqb j) colours (k ∷ [])
+
+      here : (j : ℕ) → j ≡ k → getD (set table k (getD table k 0 + 1)) j 0 ≡ howMany (eqb j) (colours ++ k ∷ [])
+      here j e = rw e (omega (arith, getD-set-same table k (getD table k 0 + 1) 0 (omega (arith, c .room)), c .counts k, more k, howMany-yes (eqb k) k [] (eq-eqb k k refl), howMany-none (eqb k)))
+
+      there : (j : ℕ) → (j ≡ k → ⊥) → getD (set table k (getD table k 0 + 1)) j 0 ≡ howMany (eqb j) (colours ++ k ∷ [])
+      there j n = omega (arith, getD-set-other table k j (getD table k 0 + 1) 0 n, c .counts j, more j, howMany-no (eqb j) k [] (ne-eqb j k n), howMany-none (eqb j))
+
+  -- the entries that are not 0 are those of the colours that are there
+  filled-there : (k : ℕ) → isFilled table k ≡ true → List·Memᴰ k colours
+  unfolding isFilled
+  filled-there k f = counted-there k colours (omega (arith, eqb-false (getD table k 0) 0 (not-true (eqb (getD table k 0) 0) f), c .counts k))
+
+  there-filled : (k : ℕ) → List·Memᴰ k colours → isFilled table k ≡ true
+  there-filled k m = is-filled table k (λ z. omega (arith, z, c .counts k, there-counted k colours m))
+
+  there-inside : (k : ℕ) → List·Memᴰ k colours → k < length table
+  there-inside k m =
+      by-cases (decLe (suc k) (length table)) (λ h. h)
+      (λ h. absurd (omega (arith, List·getD-eq-default table 0 {n = k} (omega (arith, h)), c .counts k, there-counted k colours m)))
+
+-- how many pass is how many are kept
+kept-count : (p : ℕ → Bool) (xs : List ℕ) → howMany p xs ≡ length (keep p xs)
+kept-count p [] = howMany-none p ∙ sym (ap length (keep-none p))
+kept-count p (x ∷ xs) = go (split (p x)) (kept-count p xs)
+  where
+    go : (p x ≡ true) ⊎ (p x ≡ false) → howMany p xs ≡ length (keep p xs) → howMany p (x ∷ xs) ≡ length (keep p (x ∷ xs))
+    go (inl e) ih = howMany-yes p x xs e ∙ ap suc ih ∙ sym (ap length (keep-yes p x xs e))
+    go (inr e) ih = howMany-no p x xs e ∙ ih ∙ sym (ap length (keep-no p x xs e))
+
+-- so there are as many as there are different colours
+pub filled-count : {table colours : List ℕ} → CountsOf table colours → howMany (isFilled table) (upFrom 0 (length table)) ≡ length (firsts eqb colours)
+filled-count {table = table} {colours = colours} c =
+    let most = distinct-fits entries found (keep-distinct (isFilled table) (upFrom 0 (length table)) (upFrom-distinct 0 (length table))) entry-found in
+    let least = distinct-fits found entries (firsts-distinct eqb eqb-true itself colours) found-entry in
+    omega (arith, most, least, kept-count (isFilled table) (upFrom 0 (length table)))
+  where
+    itself : (x : ℕ) → eqb x x ≡ true
+    itself x = eq-eqb x x refl
+
+    entries : List ℕ
+    entries = keep (isFilled table) (upFrom 0 (length table))
+
+    found : List ℕ
+    found = firsts eqb colours
+
+    entry-found : (k : ℕ) → List·Memᴰ k entries → List·Memᴰ k found
+    entry-found k m = firsts-mem eqb eqb-true itself colours k (filled-there c k (mem-keep (isFilled table) (upFrom 0 (length table)) k m .1))
+
+    found-entry : (k : ℕ) → List·Memᴰ k found → List·Memᴰ k entries
+    found-entry k m =
+        let n = mem-firsts eqb colours k m in
+        keep-mem (isFilled table) (upFrom 0 (length table)) k (upFrom-mem 0 (length table) k zero-le (omega (arith, there-inside c k n))) (there-filled c k n)
 
 -- two lists of colours
 module _ (one other : List ℕ) where
-  count-either : (k : ℕ) → sameCount one other k ≡ sameCount other one k
-  unfolding sameCount
-  count-either k = eqb-either (howMany (eqb k) one) (howMany (eqb k) other)
+  abbrev pub asMany : ℕ → Bool
+  asMany k = eqb (howMany (eqb k) one) (howMany (eqb k) other)
 
-  each-way : sameCounts one other && sameCounts other one ≡ true → all (sameCount one other) (one ++ other) ≡ true
-  unfolding sameCounts
-  each-way h = mem-all (sameCount one other) (one ++ other) (λ k m. go k (List·Memᴰ·append-cases one m))
+  -- equal counts of the colours that are there are equal counts of every number
+  pub equal-everywhere : all asMany (one ++ other) ≡ true → (k : ℕ) → howMany (eqb k) one ≡ howMany (eqb k) other
+  equal-everywhere h k = go (howMany (eqb k) (one ++ other)) refl
     where
-      go : (k : ℕ) → List·Memᴰ k one ⊎ List·Memᴰ k other → sameCount one other k ≡ true
-      go k (inl m) = all-mem (sameCount one other) one (and-left (sameCounts one other) (sameCounts other one) h) k m
-      go k (inr m) = count-either k ∙ all-mem (sameCount other one) other (and-right (sameCounts one other) (sameCounts other one) h) k m
+      go : (n : ℕ) → howMany (eqb k) (one ++ other) ≡ n → howMany (eqb k) one ≡ howMany (eqb k) other
+      go zero e = omega (arith, howMany-append (eqb k) one other)
+      go (suc n) e = eqb-true _ _ (all-mem asMany (one ++ other) h k (counted-there k (one ++ other) (omega arith)))
 
-  at-all : all (sameCount one other) (one ++ other) ≡ true → sameCounts one other && sameCounts other one ≡ true
-  unfolding sameCounts
-  at-all h =
-      and-both (sameCounts one other) (sameCounts other one)
-      (mem-all (sameCount one other) one (λ k m. all-mem (sameCount one other) (one ++ other) h k (Memᴰ·append-left other m)))
-      (mem-all (sameCount other one) other (λ k m. sym (count-either k) ∙ all-mem (sameCount one other) (one ++ other) h k (Memᴰ·append-right one m)))
+  -- and those of two tables that are the same
+  module _ {table table' : List ℕ} (c : CountsOf table one) (d : CountsOf table' other) where
+    pub same-tables : sameRow table table' ≡ all asMany (one ++ other)
+    same-tables = same-test (sameRow table table') (all asMany (one ++ other)) to from
+      where
+        to : sameRow table table' ≡ true → all asMany (one ++ other) ≡ true
+        to h =
+            mem-all asMany (one ++ other)
+            (λ k m. eq-eqb _ _ (sym (c .counts k) ∙ ap (λ (t : List ℕ). getD t k 0) (same-row table table' h) ∙ d .counts k))
 
-  pub counts-both : sameCounts one other && sameCounts other one ≡ all (sameCount one other) (one ++ other)
-  counts-both = same-test (sameCounts one other && sameCounts other one) (all (sameCount one other) (one ++ other)) each-way at-all
-
--- whether a colour is among some, by how often it is
-module _ (k : ℕ) (colours : List ℕ) where
-  pub is-new : howMany (eqb k) colours ≡ 0 → any (eqb k) colours ≡ false
-  is-new h = go (split (any (eqb k) colours))
-    where
-      go : (any (eqb k) colours ≡ true) ⊎ (any (eqb k) colours ≡ false) → any (eqb k) colours ≡ false
-      go (inl t) = let o = mem-any (eqb k) colours t in absurd (omega (arith, howMany-mem (eqb k) colours (o .0) (o .1) (o .2)))
-      go (inr f) = f
-
-  pub is-known : (howMany (eqb k) colours ≡ 0 → ⊥) → any (eqb k) colours ≡ true
-  is-known h = let o = howMany-some (eqb k) colours (omega arith) in any-mem (eqb k) colours (o .0) (o .1) (o .2)
+        from : all asMany (one ++ other) ≡ true → sameRow table table' ≡ true
+        from h =
+            let e = ext-getD 0 table table' (c .room ∙ sym (d .room)) (λ k l. c .counts k ∙ equal-everywhere h k ∙ sym (d .counts k)) in
+            subst (λ (t : List ℕ). sameRow table t ≡ true) e (same-row-refl table)
 
 -- what is handed on of files that were read
-module _ (s : List ℕ) (l : Layout) (reads : Reads s l) where
-  pub count-handed : (colours : List ℕ) → length (firsts eqb (coloursIn (rootsIn s l) colours)) ≡ colourCount (modelOf s) colours
+module _ (s : List ℕ) (l : Layout) (reads : Reads s l) (colours : List ℕ) where
+  pub small-handed : areSmall (coloursOf (modelOf s) colours) ≡ true → areSmall (coloursIn (rootsIn s l) colours) ≡ true
+  small-handed h = ap areSmall (colours-handed s l reads colours) ∙ h
+
+  pub counts-handed : (table : List ℕ) → CountsOf table (coloursIn (rootsIn s l) colours) → CountsOf table (coloursOf (modelOf s) colours)
+  counts-handed table c = subst (CountsOf table) (colours-handed s l reads colours) c
+
+  pub count-handed : (table : List ℕ) → CountsOf table (coloursIn (rootsIn s l) colours) → howMany (isFilled table) (upFrom 0 (length table)) ≡ colourCount (modelOf s) colours
   unfolding colourCount
-  count-handed colours = ap (λ (c : List ℕ). length (firsts eqb c)) (colours-handed s l reads colours)
+  count-handed table c = filled-count (counts-handed table c)
 
-  module _ (t : List ℕ) (m : Layout) (other-reads : Reads t m) (left right : List ℕ) where
-    abbrev leftIn : List ℕ
-    leftIn = coloursIn (rootsIn s l) left
-
-    abbrev rightIn : List ℕ
-    rightIn = coloursIn (rootsIn t m) right
-
-    handed : sameCounts leftIn rightIn && sameCounts rightIn leftIn ≡ equalCounts (modelOf s) (modelOf t) (record { left = left; right = right })
-    unfolding equalCounts sameCount
-    handed = rw (← colours-handed s l reads left, ← colours-handed t m other-reads right) (counts-both leftIn rightIn)
-
-    pub counts-handed : (r : Bool) → r ≡ sameCounts leftIn rightIn && sameCounts rightIn leftIn → r ≡ equalCounts (modelOf s) (modelOf t) (record { left = left; right = right })
-    counts-handed r e = e ∙ handed
+  pub equal-handed :
+      (t : List ℕ) (m : Layout) (other-reads : Reads t m) (colours' : List ℕ) (table table' : List ℕ) → CountsOf table (coloursIn (rootsIn s l) colours) → CountsOf table' (coloursIn (rootsIn t m) colours')
+      → sameRow table table' ≡ equalCounts (modelOf s) (modelOf t) (record { left = colours; right = colours' })
+  unfolding equalCounts
+  equal-handed t m other-reads colours' table table' c d =
+      same-tables (coloursOf (modelOf s) colours) (coloursOf (modelOf t) colours') (counts-handed table c)
+      (subst (CountsOf table') (colours-handed t m other-reads colours') d)

@@ -1,22 +1,20 @@
 -- The laws of colours by the parts of a file: one representative more, tests of a colour, and that they are those of the model that was read.
 -- Assumes nothing.
 use Prim.Native.Nat.{ℕ, _+_, _<_, _≤_, zero-le}
-use mathlib.Core.Path.{_≡_, refl, sym, _∙_, ap}
-use mathlib.Core.Logic.{_⊎_, inl, inr, by-cases}
+use mathlib.Core.Path.{_≡_, refl, _∙_, ap}
 use mathlib.Core.Bool.{Bool, true, false, _&&_}
 use mathlib.Core.List.{List, [], _∷_, _++_, map, map-append, List·Memᴰ}
 use native.Mathlib.Omega.{arith}
 use native.Mathlib.Numerals.{add-one}
-use native.Mathlib.Decide.{ℕ-discrete}
 use borrow.Author.Tests.{eq-eqb, ne-eqb}
 use lib.Dec.{eqb}
-use lib.ListN.{length}
-use Rattle.lists.specs.Every.{all, keep}
+use lib.ListN.{length, length-map}
+use Rattle.lists.specs.Every.{keep}
 use Rattle.lists.specs.First.{lowest}
 use Rattle.lists.specs.Numbers.{upFrom}
-use Rattle.lists.proofs.Laws.Tests.{split, clash}
-use Rattle.lists.proofs.Laws.Every.{all-mem, mem-all, keep-none, keep-more, keep-past, keep-mem, mem-keep}
-use Rattle.lists.proofs.Laws.Numbers.{upFrom-end, upFrom-more, upFrom-mem, mem-upFrom}
+use Rattle.lists.proofs.Laws.Every.{keep-none, keep-more, keep-past, keep-mem, mem-keep}
+use Rattle.lists.proofs.Laws.Different.{keep-fits}
+use Rattle.lists.proofs.Laws.Numbers.{length-upFrom, upFrom-end, upFrom-more, upFrom-mem, mem-upFrom}
 use Rattle.lists.proofs.Laws.Sets.{mem-map, map-mem}
 use Rattle.stored.specs.declared.layout.Layout.{Layout}
 use Rattle.stored.specs.Model.{size, isRepIn}
@@ -62,8 +60,12 @@ module _ (roots colours : List ℕ) where
     unfolding coloursBelow
     colours-alias e = ap (map (colourAt colours)) (reps-alias roots x e)
 
--- which colours they are
+-- which colours they are, and that they are no more than the numbers
 module _ (roots colours : List ℕ) (n : ℕ) where
+  pub colours-fit : length (coloursBelow roots colours n) ≤ n
+  unfolding coloursBelow repsBelow
+  colours-fit = omega (arith, length-map (keep (isRepIn roots) (upFrom 0 n)) (colourAt colours), keep-fits (isRepIn roots) (upFrom 0 n), length-upFrom 0 n)
+
   pub colour-there : (x : ℕ) → x < n → isRepIn roots x ≡ true → List·Memᴰ (colourAt colours x) (coloursBelow roots colours n)
   unfolding coloursBelow repsBelow
   colour-there x h e =
@@ -75,28 +77,6 @@ module _ (roots colours : List ℕ) (n : ℕ) where
       let o = mem-map (colourAt colours) (keep (isRepIn roots) (upFrom 0 n)) k m in
       let r = mem-keep (isRepIn roots) (upFrom 0 n) (o .0) (o .1) in
       (o .0, omega (arith, mem-upFrom 0 n (o .0) (r .0) .1), r .1, o .2)
-
--- Loops that test the colours of all representatives: those below x pass.
-pub record PassedBelow (p : ℕ → Bool) (roots colours : List ℕ) (x : ℕ) : Type 0 where
-  pub passed : (y : ℕ) → y < x → isRepIn roots y ≡ true → p (colourAt colours y) ≡ true
-
-pub passed-none : (p : ℕ → Bool) (roots colours : List ℕ) → PassedBelow p roots colours 0
-passed-none p roots colours = record { passed = λ y h e. absurd (omega arith) }
-
-module _ {p : ℕ → Bool} {roots colours : List ℕ} {x : ℕ} (i : PassedBelow p roots colours x) where
-  pub passed-more : (isRepIn roots x ≡ true → p (colourAt colours x) ≡ true) → PassedBelow p roots colours (x + 1)
-  passed-more f = record { passed = λ y h e. by-cases (ℕ-discrete y x) (λ q. rw q (f (rw q at e))) (λ q. i .passed y (omega arith) e) }
-
-  pub passed-failed : (n : ℕ) → x < n → isRepIn roots x ≡ true → p (colourAt colours x) ≡ false → false ≡ all p (coloursBelow roots colours n)
-  passed-failed n h e f = go (split (all p (coloursBelow roots colours n)))
-    where
-      go : (all p (coloursBelow roots colours n) ≡ true) ⊎ (all p (coloursBelow roots colours n) ≡ false) → false ≡ all p (coloursBelow roots colours n)
-      go (inl t) = clash (all-mem p (coloursBelow roots colours n) t (colourAt colours x) (colour-there roots colours n x h e)) f
-      go (inr g) = sym g
-
-  pub passed-all : (n : ℕ) → n ≤ x → true ≡ all p (coloursBelow roots colours n)
-  passed-all n h =
-      sym (mem-all p (coloursBelow roots colours n) (λ k m. let o = colour-of roots colours n k m in rw (o .3) (i .passed (o .0) (omega (arith, o .1)) (o .2))))
 
 -- whether an element is a representative of a colour
 pub has-test : (roots colours : List ℕ) (k : ℕ) → hasColour roots colours k ≡ (λ (x : ℕ). isRepIn roots x && eqb (colourAt colours x) k)

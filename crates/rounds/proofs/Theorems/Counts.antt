@@ -1,6 +1,6 @@
 -- Counts: after a round a side has no fewer colours than before; where the counts are equal, the left colours after it are 0, 1, .. without a gap, as
 -- many as the palette has keys. Assumes nothing.
-use Prim.Native.Nat.{ℕ, zero, suc, _+_, _<_, _≤_, zero-le}
+use Prim.Native.Nat.{ℕ, _+_, _<_, _≤_, zero-le}
 use mathlib.Core.Path.{_≡_, refl, sym, _∙_, ap, subst}
 use mathlib.Core.Logic.{_⊎_, inl, inr}
 use mathlib.Core.Bool.{true}
@@ -12,14 +12,15 @@ use lib.ListN.{length, getD}
 use Rattle.lists.specs.Every.{howMany}
 use Rattle.lists.specs.First.{firstAt, firsts}
 use Rattle.lists.specs.Numbers.{upFrom}
-use Rattle.lists.proofs.Laws.Every.{all-mem, getD-mem}
+use Rattle.lists.proofs.Laws.Every.{getD-mem}
 use Rattle.lists.proofs.Laws.Numbers.{length-upFrom, upFrom-mem, mem-upFrom}
 use Rattle.lists.proofs.Laws.Sets.{mem-map, map-mem, firsts-distinct, mem-firsts, firsts-mem}
 use Rattle.stored.specs.Model.{Model}
 use Rattle.rounds.specs.Colours.{colourAt}
 use Rattle.rounds.specs.Keys.{Key, keyOf, sameKey}
 use Rattle.rounds.specs.Round.{reps, Sides, palette, round, coloursOf, colourCount, equalCounts}
-use Rattle.lists.proofs.Laws.Counting.{howMany-append, howMany-some, howMany-mem, distinct-fits, upFrom-distinct, finer-more, class-place}
+use Rattle.lists.proofs.Laws.Counting.{distinct-fits, upFrom-distinct, finer-more, class-place}
+use Rattle.rounds.proofs.Laws.Counts.{counted-there, there-counted, equal-everywhere}
 use Rattle.rounds.proofs.Theorems.Keys.{Side, onLeft, onRight, modelOn, coloursOn, RepOn, key-refl, key-sym, number-known, round-at}
 use Rattle.rounds.proofs.Theorems.Refining.{left-refines, right-refines}
 
@@ -69,27 +70,11 @@ module _ (m : Model) (colours : List ℕ) where
 module _ (a b : Model) (c : Sides) (equal : equalCounts a b c ≡ true) where
   pub equal-at : (k : ℕ) → howMany (eqb k) (coloursOf a (c .left)) ≡ howMany (eqb k) (coloursOf b (c .right))
   unfolding equalCounts
-  equal-at k = go (howMany (eqb k) (p ++ q)) refl
-    where
-      p : List ℕ
-      p = coloursOf a (c .left)
-
-      q : List ℕ
-      q = coloursOf b (c .right)
-
-      go : (n : ℕ) → howMany (eqb k) (p ++ q) ≡ n → howMany (eqb k) p ≡ howMany (eqb k) q
-      go zero e = omega (arith, howMany-append (eqb k) p q)
-      go (suc n) e =
-          let r = howMany-some (eqb k) (p ++ q) (omega arith) in
-          let w : k ≡ r .0 = eqb-true k (r .0) (r .2) in
-          rw w (eqb-true _ _ (all-mem (λ (k : ℕ). eqb (howMany (eqb k) p) (howMany (eqb k) q)) (p ++ q) equal (r .0) (r .1)))
+  equal-at = equal-everywhere (coloursOf a (c .left)) (coloursOf b (c .right)) equal
 
   -- a colour of the right side is one of the left
   pub right-left : (k : ℕ) → List·Memᴰ k (coloursOf b (c .right)) → List·Memᴰ k (coloursOf a (c .left))
-  right-left k m =
-      let some = howMany-mem (eqb k) (coloursOf b (c .right)) k m (eq-eqb k k refl) in
-      let r = howMany-some (eqb k) (coloursOf a (c .left)) (omega (arith, equal-at k)) in
-      subst (λ (v : ℕ). List·Memᴰ v (coloursOf a (c .left))) (sym (eqb-true k (r .0) (r .2))) (r .1)
+  right-left k m = counted-there k (coloursOf a (c .left)) (omega (arith, equal-at k, there-counted k (coloursOf b (c .right)) m))
 
 module _ (a b : Model) (c : Sides) where
   -- the colours that a side has after the round

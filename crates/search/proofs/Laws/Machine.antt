@@ -19,7 +19,7 @@ use Rattle.stored.specs.Model.{Model, size, isRep}
 use Rattle.stored.specs.Canonical.{canonical}
 use Rattle.stored.specs.Signature.{signature, sameSignature}
 use Rattle.stored.specs.Reading.{Reads, modelOf}
-use Rattle.stored.proofs.Laws.Reading.{size-is}
+use Rattle.stored.proofs.Laws.Reading.{reads-formed, size-is}
 use Rattle.rows.proofs.Laws.Given.{size-few}
 use Rattle.rounds.specs.Round.{reps, Sides, roundOutcome}
 use Rattle.rounds.specs.Board.{boardRoom, Board}
@@ -31,10 +31,11 @@ use Rattle.search.specs.declared.machine.Phase.{Phase}
 use Rattle.search.specs.declared.machine.Phase.the-variants as phase
 use Rattle.search.specs.Machine.{Choice, State, refine, close, choose, done, Step, there, nowhere, takes, mapOf, closes, afterRound, afterClosing, nextChoice, step, Ended, found, none, exhausted, run}
 use Rattle.search.specs.Answer.{answerOf, written, workRoom, ended}
-use Rattle.search.specs.Choices.{choiceLength, choicesOn, choiceIn, candidateIn, choicesIn, sidesIn, stateOf, Rows, writtenIf, Reopened, Looked}
+use Rattle.search.specs.Choices.{choiceLength, choicesOn, choiceIn, candidateIn, choicesIn, sidesIn, stateOf, Rows, SmallSides, writtenIf, Reopened, Looked}
 use Rattle.search.proofs.Laws.Run.{run-there, run-nowhere, run-takes, run-out}
 use Rattle.search.proofs.Laws.Choices.{choice-goes, next-none, next-same, next-other}
 use Rattle.search.proofs.Theorems.Invariant.{Reached, here, next}
+use Rattle.search.proofs.Theorems.Small.{reached-small}
 use Rattle.search.proofs.Theorems.Choices.{openIn, Rising, Risen, reached-rising, open-choices}
 
 -- the rest of a run from some colours with no open choice, after so many units
@@ -178,6 +179,11 @@ module _ (s t : List ℕ) (l m : Layout) (cells : ℕ) (start : List (List ℕ))
     at-round : Goes a b budget (sidesIn a b start) used (refine (sidesIn a b colours) now-choices)
     unfolding stateOf
     at-round = subst (λ (p : Phase). Goes a b budget (sidesIn a b start) used (stateOf p (sidesIn a b colours) now-choices)) q (r .goes)
+
+    -- with small colours, if the first are
+    pub round-small : SmallSides a b (sidesIn a b start) → SmallSides a b (sidesIn a b colours)
+    round-small h =
+        reached-small a b (reads-formed s l (r .reads)) (reads-formed t m (r .others)) 1 (sidesIn a b start) (sidesIn a b colours) now-choices h (at-round .reached)
 
     pub round-out : used ≡ budget → Answers (answer.Exhausted used) out work
     round-out u = answers-exhausted (goes-out a b budget (sidesIn a b start) used _ at-round _ (step-refine a b (sidesIn a b colours) now-choices) u)

@@ -1,7 +1,7 @@
 -- The laws of a round and what follows it: the state of each phase, the choice that a stable round opens, and the parts of the lent work that come
 -- back. Assumes nothing.
 use Prim.Native.Nat.{ℕ, _+_, _*_, _<_, _≤_}
-use mathlib.Core.Path.{_≡_, refl, sym, _∙_, ap, ap₂}
+use mathlib.Core.Path.{_≡_, refl, sym, _∙_, ap, ap₂, subst}
 use mathlib.Core.Bool.{Bool, true, false}
 use mathlib.Core.List.{List, [], _∷_, _++_}
 use native.Mathlib.Omega.{arith}
@@ -25,8 +25,8 @@ use Rattle.rounds.specs.declared.classes.Open.{Open as Found}
 use Rattle.rounds.specs.declared.classes.Open.the-variants as found
 use Rattle.rounds.specs.Board.{boardRoom, Board}
 use Rattle.rounds.specs.Classes.{allSingle, openAt, openOf, smallestOpen, lowestOf}
-use Rattle.rounds.specs.Parts.{hasColour}
-use Rattle.rounds.specs.Round.{Sides, Outcome, dead, stable, again, colourCount, equalCounts, round, roundOutcome}
+use Rattle.rounds.specs.Parts.{areSmall, hasColour}
+use Rattle.rounds.specs.Round.{Sides, coloursOf, Outcome, dead, stable, again, colourCount, equalCounts, round, roundOutcome}
 use Rattle.rounds.proofs.Laws.Classes.{open-none, open-at}
 use Rattle.rounds.proofs.Laws.Parts.{lowest-handed}
 use Rattle.rounds.proofs.Theorems.Classes.{count-fits, outcome-stable, outcome-again, when-stable, when-again}
@@ -35,8 +35,9 @@ use Rattle.search.specs.declared.machine.Phase.{Phase}
 use Rattle.search.specs.declared.machine.Phase.the-variants as phase
 use Rattle.search.specs.Machine.{Choice, refine, close, choose, choiceAt, afterStable, afterRound}
 use Rattle.search.specs.Answer.{workRoom}
-use Rattle.search.specs.Choices.{choiceLength, choicesOn, choicesIn, sidesIn, Rows, stateOf, Settled, Opened}
+use Rattle.search.specs.Choices.{choiceLength, choicesOn, choicesIn, sidesIn, Rows, SmallSides, stateOf, Settled, Opened}
 use Rattle.search.proofs.Laws.Choices.{opened-at}
+use Rattle.search.proofs.Theorems.Small.{after-round}
 
 -- the state of each phase
 module _ (c : Sides) (choices : List Choice) where
@@ -208,6 +209,23 @@ module _ {a b : Model} {n m : ℕ} {c₀ c : List (List ℕ)} {before : ℕ} (u 
           ∙ ap₂ (λ (x : Sides) (y : List ℕ). afterStable a b x (choicesIn a b y depth) (smallestOpen a (x .left))) fronts-new e
           ∙ sym (round-stable a b (choicesIn a b v₀ depth) new)
           ∙ ap (afterRound a b (choicesIn a b v₀ depth)) (sym (outcome-stable a b (sidesIn a b c₀) new (equal-is true q) (eq-eqb _ _ (sym has-new ∙ same ∙ u .had))))
+
+-- the fronts of two rows, by the sizes in the layouts, where the colours of both sides are small
+module _ (s t : List ℕ) (l m : Layout) (p : Reads s l) (q : Reads t m) (c : List (List ℕ)) (small : SmallSides (modelOf s) (modelOf t) (sidesIn (modelOf s) (modelOf t) c)) where
+  pub left-small : areSmall (coloursOf (modelOf s) (take (l .size) (getD c 0 []))) ≡ true
+  unfolding sidesIn
+  left-small = ap (λ (k : ℕ). areSmall (coloursOf (modelOf s) (take k (getD c 0 [])))) (size-is s l p) ∙ small .0
+
+  pub right-small : areSmall (coloursOf (modelOf t) (take (m .size) (getD c 1 []))) ≡ true
+  unfolding sidesIn
+  right-small = ap (λ (k : ℕ). areSmall (coloursOf (modelOf t) (take k (getD c 1 [])))) (size-is t m q) ∙ small .1
+
+-- as they are after a round
+pub rounded-small :
+    (s t : List ℕ) (l m : Layout) (p : Reads s l) (q : Reads t m) {n k : ℕ} {c₀ c : List (List ℕ)} {before : ℕ} → Rounded (modelOf s) (modelOf t) n k c₀ c before
+    → SmallSides (modelOf s) (modelOf t) (sidesIn (modelOf s) (modelOf t) c)
+rounded-small s t l m p q u =
+    subst (SmallSides (modelOf s) (modelOf t)) (sym (u .is-round)) (after-round (modelOf s) (modelOf t) (reads-formed s l p) (reads-formed t m q) _)
 
 -- the lent work with its first part come back: the board is what came back, the choices and all past them are as they were
 pub record BoardBack (w new w′ : List ℕ) : Type 0 where

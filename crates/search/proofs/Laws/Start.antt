@@ -15,6 +15,7 @@ use Rattle.stored.specs.declared.layout.Layout.{Layout}
 use Rattle.stored.specs.Model.{Model, size}
 use Rattle.stored.specs.Reading.{Reads, modelOf}
 use Rattle.stored.proofs.Laws.Reading.{size-is}
+use Rattle.stored.proofs.Laws.WellFormed.{WellFormed}
 use Rattle.rows.specs.Check.{blank}
 use Rattle.rows.proofs.Laws.Given.{size-few}
 use Rattle.rows.proofs.Laws.Check.{length-blank}
@@ -22,12 +23,14 @@ use Rattle.rounds.specs.Colours.{leftColours, rightColours}
 use Rattle.rounds.specs.Round.{Sides}
 use Rattle.rounds.specs.Board.{countStart, otherStart, boardRoom, Empty, Board}
 use Rattle.rounds.proofs.Laws.Colours.{length-left, length-right}
+use Rattle.search.specs.Partners.{PartnersOf}
 use Rattle.search.specs.Machine.{State, refine, imageOf, mapOf, closes, run}
 use Rattle.search.specs.Answer.{workRoom, cleared, ended, answerOf, written}
 use Rattle.search.specs.declared.answer.Answer.{Answer}
 use Rattle.search.specs.Find.{roundCost, startFrom}
-use Rattle.search.specs.Choices.{sidesIn, Rows, writtenIf}
+use Rattle.search.specs.Choices.{sidesIn, Rows, SmallSides, writtenIf}
 use Rattle.search.proofs.Laws.Work.{length-cleared}
+use Rattle.search.proofs.Theorems.Small.{start-small}
 
 -- a row of 64, with an entry for each element of a file in its front
 module _ (s : List ℕ) (l : Layout) (p : Reads s l) (row : List ℕ) (h : length row ≡ 64) where
@@ -210,6 +213,12 @@ module _ (w₀ w₁ : List ℕ) (room : workRoom ≤ length w₀) (e : w₁ ≡ 
       cleared-again w₃ u =
           u
           ∙ cleared-same w₀ workRoom w₂ (kept .1 ∙ behind board w₁ boardRoom workRoom (long ∙ board-long) (omega arith) ∙ ap (drop workRoom) e ∙ cleared-rest w₀ workRoom)
+
+-- the first colours are small
+pub first-small :
+    (a b : Model) → WellFormed a → WellFormed b → (f g : List ℕ) → PartnersOf a b f g → (start : List (List ℕ))
+    → _≡_ {A = Sides} (sidesIn a b start) (record { left = leftColours a f; right = rightColours b (leftColours a f) g }) → SmallSides a b (sidesIn a b start)
+first-small a b wa wb f g p start e = subst (SmallSides a b) (sym e) (start-small a b wa wb f g p)
 
 -- a run from the first colours
 module _ (a b : Model) (f g : List ℕ) (budget : ℕ) (start : List (List ℕ)) (e : _≡_ {A = Sides} (sidesIn a b start) (record { left = leftColours a f; right = rightColours b (leftColours a f) g })) where

@@ -1,4 +1,4 @@
--- `rounds::classes::smallest_in` meets its contract. The invariant: the answer is the smallest answer class of the colours from k on; the measure is k.
+-- `rounds::classes::smallest_in` meets its contract. The invariant: the answer is the smallest open class of the colours from k on; the measure is k.
 -- Assumes nothing.
 use Prim.Native.Nat.{ℕ, suc, _-_, _<_, _≤_}
 use mathlib.Core.Path.{_≡_, sym, _∙_, ap}
@@ -11,7 +11,8 @@ use Rattle.rounds.specs.declared.classes.Open.{Open}
 use Rattle.rounds.specs.declared.classes.Open.the-variants as found
 use Rattle.rounds.specs.Classes.{openOf, smallestFrom}
 use Rattle.rounds.specs.Parts.{repsIn, coloursIn, smallestWith}
-use Rattle.rounds.proofs.Laws.Classes.{open-none, from-none, from-more, colours-count, reps-fit}
+use Rattle.rounds.proofs.Laws.Classes.{open-none, from-none, from-more, colours-count}
+use Rattle.rounds.proofs.Laws.Parts.{colours-fit}
 use Rattle.rounds.proofs.classes.smallest_in.Statement.{statement}
 use Rattle.rounds.proofs.classes.smallest_in.Tie as tie
 
@@ -25,7 +26,7 @@ start roots colours h k e =
     let q : k ≡ length (coloursIn roots colours) = e ∙ sym (colours-count roots colours) in
     let z : length (coloursIn roots colours) - k ≡ 0 = omega arith in
     record {
-      few = omega (arith, colours-count roots colours, reps-fit roots colours);
+      few = omega (arith, colours-fit roots colours (length roots));
       within = omega arith;
       same = rw z (open-none ∙ sym (from-none (coloursIn roots colours) k));
     }
@@ -56,22 +57,28 @@ module _ (roots colours : List ℕ) (answer : Open) (k : ℕ) (i : Found roots c
       }
 
 abbrev Inv-loop : tie.InvT-loop
-Inv-loop roots colours answer₀ k₀ answer k = Found roots colours answer k
+Inv-loop roots colours counts answer₀ k₀ answer k = Found roots colours answer k
 
 abbrev μ-loop : tie.MeasureT-loop
-μ-loop roots colours answer₀ k₀ answer k = k
+μ-loop roots colours counts answer₀ k₀ answer k = k
+
+counts-in-requires : tie.Need-counts-in-requires Inv-loop μ-loop
+counts-in-requires c κs = search needs
 
 rep-count-requires : tie.Need-rep-count-requires Inv-loop μ-loop
 rep-count-requires c κs = search needs
 
 loop-holds : tie.Need-loop-holds Inv-loop μ-loop
-loop-holds c = start _ _ (c .before .before .before .pre) _ (c .rep-count .ensures)
+loop-holds c = start _ _ (c .before .before .before .before .pre .0) _ (c .rep-count .ensures)
 
 sub-k : tie.Need-sub-k Inv-loop μ-loop
 sub-k c = search needs
 
+slice-aggregate-smallest-with : tie.Need-slice-aggregate-smallest-with Inv-loop μ-loop
+slice-aggregate-smallest-with c = search needs
+
 cast-smallest-with : tie.Need-cast-smallest-with Inv-loop μ-loop
-cast-smallest-with c = omega (arith, small _ _ _ _ (c .before .loop .inv))
+cast-smallest-with c = omega (arith, small _ _ _ _ (c .before .before .loop .inv))
 
 smallest-with-requires : tie.Need-smallest-with-requires Inv-loop μ-loop
 smallest-with-requires c κs = search needs
@@ -80,7 +87,9 @@ loop-less : tie.Need-loop-less Inv-loop μ-loop
 loop-less c = search needs
 
 loop-again : tie.Need-loop-again Inv-loop μ-loop
-loop-again c = more _ _ _ _ (c .before .before .loop .inv) (c .before .loop-test .taken) _ (c .smallest-with .ensures)
+loop-again c =
+    let k = c .before .before in
+    more _ _ _ _ (k .before .loop .inv) (k .loop-test .taken) _ (c .smallest-with .ensures _ (k .before .before .before .counts-in .ensures))
 
 returns : tie.Need-returns Inv-loop μ-loop
 returns c = done _ _ _ _ (c .before .loop .inv) (c .loop-test .left)
@@ -91,9 +100,11 @@ smallest-in-spec =
     (tie.spec
     Inv-loop
     μ-loop
+    counts-in-requires
     rep-count-requires
     loop-holds
     sub-k
+    slice-aggregate-smallest-with
     cast-smallest-with
     smallest-with-requires
     loop-less

@@ -4,6 +4,7 @@ use native.Mathlib.Omega.{arith}
 use borrow.Author.Needs.{needs}
 use Rattle.stored.proofs.Laws.Reading.{roots-inside}
 use Rattle.rows.proofs.Laws.Given.{roots-few}
+use Rattle.rounds.proofs.Laws.Counts.{small-handed}
 use Rattle.rounds.proofs.Laws.Classes.{open-handed}
 use Rattle.rounds.proofs.classes.smallest_open.Statement.{statement}
 use Rattle.rounds.proofs.classes.smallest_open.Tie as tie
@@ -21,7 +22,9 @@ part-smallest-in-end : tie.Need-part-smallest-in-end
 part-smallest-in-end c = roots-inside _ _ (c .before .before .before .pre .0)
 
 smallest-in-requires : tie.Need-smallest-in-requires
-smallest-in-requires c κs = roots-few _ _ (c .before .before .before .before .pre .0)
+smallest-in-requires c κs =
+    let p = c .before .before .before .before .pre in
+    (roots-few _ _ (p .0), small-handed _ _ (p .0) _ (p .2))
 
 returns : tie.Need-returns
 returns c = c .smallest-in .ensures ∙ open-handed _ _ (c .before .before .before .before .before .pre .0) _

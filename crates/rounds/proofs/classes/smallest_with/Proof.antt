@@ -38,11 +38,12 @@ module _ (colours : List ℕ) (v : Colour) (later : Open) (n : ℕ) (e : n ≡ h
       after : m < n → openOf (found.At other) ≡ smallestWith colours (v .0) (openOf later)
       after l = open-at other ∙ sym (is-other ∙ with-later colours (v .0) two (other .0) (omega (arith, e, d)))
 
-how-many-requires : tie.Need-how-many-requires
-how-many-requires c κs = search needs
+count-at-requires : tie.Need-count-at-requires
+count-at-requires c κs = search needs
 
 returns : tie.Need-returns
-returns c = single _ (record { 0 = c .before .before .before .before .args .k }) _ _ (c .before .how-many .ensures) (c .if1 .taken)
+returns c colours counts =
+    single colours (record { 0 = c .before .before .before .args .k }) _ _ (c .before .count-at .ensures ∙ counts .counts _) (c .if1 .taken)
 
 enum-told : tie.Need-enum-told
 enum-told c = search needs
@@ -50,35 +51,35 @@ enum-told c = search needs
 enum-known-later : tie.Need-enum-known-later
 enum-known-later c = search needs
 
-how-many-requires-2 : tie.Need-how-many-requires-2
-how-many-requires-2 c κs = search needs
+count-at-requires-2 : tie.Need-count-at-requires-2
+count-at-requires-2 c κs = search needs
 
 returns-2 : tie.Need-returns-2
-returns-2 c =
+returns-2 c colours counts =
     let t = c .before .before in
     let f = t .before .before .before in
-    first _ (record { 0 = f .before .before .before .before .args .k }) _ _ (f .before .how-many .ensures) (f .if1 .left) _ (t .before .later .given .1) _ (c .before .how-many2 .ensures) (c .if2 .taken)
+    first colours (record { 0 = f .before .before .before .args .k }) _ _ (f .before .count-at .ensures ∙ counts .counts _) (f .if1 .left) _ (t .before .later .given .1) _ (c .before .count-at2 .ensures ∙ counts .counts _) (c .if2 .taken)
 
 returns-3 : tie.Need-returns-3
-returns-3 c =
+returns-3 c colours counts =
     let f = c .before .before in
-    only _ (record { 0 = f .before .before .before .before .args .k }) _ _ (f .before .how-many .ensures) (f .if1 .left) (c .enum-told .given .1)
+    only colours (record { 0 = f .before .before .before .args .k }) _ _ (f .before .count-at .ensures ∙ counts .counts _) (f .if1 .left) (c .enum-told .given .1)
 
 returns-4 : tie.Need-returns-4
-returns-4 c =
+returns-4 c colours counts =
     let t = c .before .before in
     let f = t .before .before .before in
-    after _ (record { 0 = f .before .before .before .before .args .k }) _ _ (f .before .how-many .ensures) (f .if1 .left) _ (t .before .later .given .1) _ (c .before .how-many2 .ensures) (c .if2 .left)
+    after colours (record { 0 = f .before .before .before .args .k }) _ _ (f .before .count-at .ensures ∙ counts .counts _) (f .if1 .left) _ (t .before .later .given .1) _ (c .before .count-at2 .ensures ∙ counts .counts _) (c .if2 .left)
 
 pub smallest-with-spec : {M : Type 1} → statement M
 smallest-with-spec =
     tie.close
     (tie.spec
-    how-many-requires
+    count-at-requires
     returns
     enum-told
     enum-known-later
-    how-many-requires-2
+    count-at-requires-2
     returns-2
     returns-3
     returns-4)

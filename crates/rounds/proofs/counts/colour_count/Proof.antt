@@ -3,29 +3,48 @@ use mathlib.Core.Path.{_∙_}
 use native.Mathlib.Omega.{arith}
 use borrow.Author.Needs.{needs}
 use Rattle.stored.proofs.Laws.Reading.{roots-inside}
-use Rattle.rounds.proofs.Laws.Counts.{count-handed}
+use Rattle.rows.proofs.Laws.Given.{roots-few}
+use Rattle.rounds.proofs.Laws.Counts.{small-handed, count-handed}
 use Rattle.rounds.proofs.counts.colour_count.Statement.{statement}
 use Rattle.rounds.proofs.counts.colour_count.Tie as tie
 
 add-end : tie.Need-add-end
 add-end c = omega (arith, roots-inside _ _ (c .before .before .before .pre .0))
 
-sub-different : tie.Need-sub-different
-sub-different c = search needs
+sub-counts-in : tie.Need-sub-counts-in
+sub-counts-in c = search needs
 
-part-different-start : tie.Need-part-different-start
-part-different-start c = search needs
+part-counts-in-start : tie.Need-part-counts-in-start
+part-counts-in-start c = search needs
 
-part-different-end : tie.Need-part-different-end
-part-different-end c = roots-inside _ _ (c .before .before .before .pre .0)
+part-counts-in-end : tie.Need-part-counts-in-end
+part-counts-in-end c = roots-inside _ _ (c .before .before .before .pre .0)
 
-different-requires : tie.Need-different-requires
-different-requires c κs = search needs
+counts-in-requires : tie.Need-counts-in-requires
+counts-in-requires c κs =
+    let p = c .before .before .before .before .pre in
+    (roots-few _ _ (p .0), small-handed _ _ (p .0) _ (p .2))
+
+slice-aggregate-filled : tie.Need-slice-aggregate-filled
+slice-aggregate-filled c = search needs
+
+filled-requires : tie.Need-filled-requires
+filled-requires c κs = search needs
 
 returns : tie.Need-returns
-returns c = c .different .ensures ∙ count-handed _ _ (c .before .before .before .before .before .pre .0) _
+returns c =
+    let k = c .before .before in
+    c .filled .ensures ∙ count-handed _ _ (k .before .before .before .before .before .pre .0) _ _ (k .counts-in .ensures)
 
 pub colour-count-spec : {M : Type 1} → statement M
 colour-count-spec =
     tie.close
-    (tie.spec add-end sub-different part-different-start part-different-end different-requires returns)
+    (tie.spec
+    add-end
+    sub-counts-in
+    part-counts-in-start
+    part-counts-in-end
+    counts-in-requires
+    slice-aggregate-filled
+    filled-requires
+    returns)

@@ -7,7 +7,8 @@ use borrow.Author.Tests.{not-true, not-false}
 use lib.ListN.{getD, take, drop}
 use Rattle.stored.specs.Reading.{modelOf}
 use Rattle.rounds.specs.Board.{boardRoom}
-use Rattle.search.proofs.Laws.Refine.{side-room, side-front, side-long, side-few, Rounded, rounded-rows, state-dead, state-again, state-stable, BoardBack, board-back, choices-room, ChoicesBack, choices-back, left-as-deep, left-deeper}
+use Rattle.search.specs.Choices.{sidesIn, SmallSides}
+use Rattle.search.proofs.Laws.Refine.{side-room, side-front, side-long, side-few, Rounded, rounded-rows, left-small, right-small, rounded-small, state-dead, state-again, state-stable, BoardBack, board-back, choices-room, ChoicesBack, choices-back, left-as-deep, left-deeper}
 use Rattle.search.proofs.machine.refine.Statement.{statement}
 use Rattle.search.proofs.machine.refine.Tie as tie
 
@@ -16,6 +17,11 @@ rounded :
     (r : tie.After-round) → let s = r .before .before .before .before .before .before .before .before .before in
     Rounded (modelOf (s .args .left .now)) (modelOf (s .args .right .now)) (s .args .in-left .size) (s .args .in-right .size) (s .args .colours .now) (r .round .result) (r .before .before .colour-count .result)
 rounded r = let s = r .before .before .before .before .before .before .before .before .before in rounded-rows _ _ _ _ (s .pre .0) (s .pre .1) _ _ _ (r .round .ensures .0) (r .before .before .colour-count .ensures)
+
+small :
+    (r : tie.After-round) → let s = r .before .before .before .before .before .before .before .before .before in
+    SmallSides (modelOf (s .args .left .now)) (modelOf (s .args .right .now)) (sidesIn (modelOf (s .args .left .now)) (modelOf (s .args .right .now)) (r .round .result))
+small r = let s = r .before .before .before .before .before .before .before .before .before in rounded-small _ _ _ _ (s .pre .0) (s .pre .1) (rounded r)
 
 board :
     (r : tie.After-round) → let w = r .before .before .before .before .before .before .before .before .before .args .work .now in
@@ -45,7 +51,7 @@ slice-aggregate-colour-count c =
 colour-count-requires : tie.Need-colour-count-requires
 colour-count-requires c κs =
     let s = c .before .before .before .before .before .before in
-    (s .pre .0, side-long _ _ (s .pre .0) _ (s .pre .6 .1))
+    (s .pre .0, side-long _ _ (s .pre .0) _ (s .pre .6 .1), left-small _ _ _ _ (s .pre .0) (s .pre .1) (s .args .colours .now) (s .pre .7))
 
 slice-relend-prefix-round : tie.Need-slice-relend-prefix-round
 slice-relend-prefix-round c = search needs
@@ -92,7 +98,7 @@ equal-counts-requires : tie.Need-equal-counts-requires
 equal-counts-requires c κs =
     let r = c .before .before .before .before .before .before in
     let s = r .before .before .before .before .before .before .before .before .before in
-    (s .pre .0, s .pre .1, side-long _ _ (s .pre .0) _ (r .round .ensures .1 .0 .1), side-long _ _ (s .pre .1) _ (r .round .ensures .1 .0 .2))
+    (s .pre .0, s .pre .1, side-long _ _ (s .pre .0) _ (r .round .ensures .1 .0 .1), side-long _ _ (s .pre .1) _ (r .round .ensures .1 .0 .2), left-small _ _ _ _ (s .pre .0) (s .pre .1) (r .round .result) (small r), right-small _ _ _ _ (s .pre .0) (s .pre .1) (r .round .result) (small r))
 
 same-length : tie.Need-same-length
 same-length c = board (c .before .before .before .before .before .before .before .before) .long
@@ -118,7 +124,7 @@ colour-count-requires-2 : tie.Need-colour-count-requires-2
 colour-count-requires-2 c κs =
     let r = c .before .before .before .before .before .before .before .before .before in
     let s = r .before .before .before .before .before .before .before .before .before in
-    (s .pre .0, side-long _ _ (s .pre .0) _ (r .round .ensures .1 .0 .1))
+    (s .pre .0, side-long _ _ (s .pre .0) _ (r .round .ensures .1 .0 .1), left-small _ _ _ _ (s .pre .0) (s .pre .1) (r .round .result) (small r))
 
 same-length-2 : tie.Need-same-length-2
 same-length-2 c = board (c .before .before .before .before .before .before .before .before .before .before .before) .long
@@ -166,7 +172,7 @@ settle-requires : tie.Need-settle-requires
 settle-requires c κs =
     let r = c .before .before .before .before .before .before .before .before .before .before .before .before .before .before in
     let s = r .before .before .before .before .before .before .before .before .before in
-    (s .pre .0, side-long _ _ (s .pre .0) _ (r .round .ensures .1 .0 .1), side-few _ _ (s .pre .1) _ (r .round .ensures .1 .0 .2), c .before .before .before .before .colour-count2 .ensures, choices-room (board r) _ (s .pre .5))
+    (s .pre .0, side-long _ _ (s .pre .0) _ (r .round .ensures .1 .0 .1), side-few _ _ (s .pre .1) _ (r .round .ensures .1 .0 .2), c .before .before .before .before .colour-count2 .ensures, choices-room (board r) _ (s .pre .5), left-small _ _ _ _ (s .pre .0) (s .pre .1) (r .round .result) (small r))
 
 same-length-3 : tie.Need-same-length-3
 same-length-3 c = choices (c .before .before) .long ∙ board (c .before .before .before .before .before .before .before .before .before .before .before .before .before .before .before .before .before) .long

@@ -6,7 +6,7 @@ use native.Mathlib.Omega.{arith}
 use borrow.Author.Needs.{needs}
 use lib.ListN.{length}
 use Rattle.rows.proofs.Laws.Given.{size-few}
-use Rattle.search.proofs.Laws.Machine.{Running, running-start, depth-few, work-room, choices-fit, round-out, round-on, check-out, check-found, check-on, choice-none, choice-out, element-known, stay-fits, candidate-there, choice-same, choice-other}
+use Rattle.search.proofs.Laws.Machine.{Running, running-start, depth-few, work-room, choices-fit, round-small, round-out, round-on, check-out, check-found, check-on, choice-none, choice-out, element-known, stay-fits, candidate-there, choice-same, choice-other}
 use Rattle.search.proofs.machine.run.Statement.{statement}
 use Rattle.search.proofs.machine.run.Tie as tie
 
@@ -35,7 +35,9 @@ add-used : tie.Need-add-used Inv-loop μ-loop
 add-used c = search needs
 
 refine-requires : tie.Need-refine-requires Inv-loop μ-loop
-refine-requires c κs = let r = c .before .before .before .before .before .loop .inv in (r .reads, r .others, r .one, r .board, work-room _ _ _ _ _ _ _ _ _ _ _ _ _ _ _ r, omega (arith, depth-few _ _ _ _ _ _ _ _ _ _ _ _ _ _ _ r), r .rows)
+refine-requires c κs =
+    let r = c .before .before .before .before .before .loop .inv in
+    (r .reads, r .others, r .one, r .board, work-room _ _ _ _ _ _ _ _ _ _ _ _ _ _ _ r, omega (arith, depth-few _ _ _ _ _ _ _ _ _ _ _ _ _ _ _ r), r .rows, round-small _ _ _ _ _ _ _ _ _ _ _ _ _ _ _ r (c .before .before .before .enum-told .given .1) (c .before .before .before .before .before .before .before .before .before .before .pre .8))
 
 loop-less : tie.Need-loop-less Inv-loop μ-loop
 loop-less c = omega (arith, c .before .before .before .before .before .before .before .before .loop .inv .goes .spent, c .before .before .before .before .before .if1 .left)
