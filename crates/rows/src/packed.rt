@@ -71,7 +71,7 @@ fn has_number(rows: &[u8], arity: usize, count: usize, number: u64) -> bool
 }
 
 // Whether each of some rows, taken through a table, is among others, which ascend. Both are of one arity.
-pub(crate) fn rows_found(
+pub fn rows_found(
     table: &[u8],
     rows: &[u8],
     count: usize,

@@ -4,6 +4,7 @@ pub mod Invariant
 pub mod Steps
 pub mod Choices
 pub mod Closing
+pub mod Onto
 pub mod None
 pub mod Sound
 pub mod Finer

@@ -13,10 +13,12 @@ ghost use Rattle.stored.specs.Signature.{signature, sameSignature};
 ghost use Rattle.stored.specs.Reading.{Reads, modelOf};
 ghost use Rattle.search.specs.Machine.{imageIn, mapOf};
 ghost use Rattle.search.specs.Machine as machine;
+ghost use Rattle.search.specs.Find.{alike};
+ghost use Rattle.search.specs.Closing.{OneToOne};
 use rounds::classes::lowest_in;
 use rounds::colours::colour_at;
 use rows::maps::is_rep;
-use rows::rows::rows_kept;
+use rows::packed::rows_found;
 use stored::layout::Layout;
 
 // The image of an element: of a representative the one of its colour, of an alias none.
@@ -83,8 +85,9 @@ pub(crate) fn map_of(
     );
 }
 
-// Whether a map takes the rows of each relation of the left onto those of the right (`preserves_relations` of model_hom.rs). Both models are canonical and
-// of one signature.
+// Whether a map takes the rows of each relation of the left onto those of the right (`preserves_relations` of model_hom.rs). Both models are canonical, of
+// one signature and alike, and the map is one to one: the images of a relation's rows are as many as the right's rows, so where each of them is one of those,
+// each of those is one of them, and only the first is looked at.
 pub(crate) fn closes(
     left: &[u8],
     in_left: Layout,
@@ -92,13 +95,10 @@ pub(crate) fn closes(
     in_right: Layout,
     map: &[u8],
 ) -> bool
-    requires { ⌜ Reads (now left) «in_left» × Reads (now right) «in_right» × (sameSignature (signature (modelOf (now left))) (signature (modelOf (now right))) ≡ true) × (canonical (modelOf (now right)) ≡ true) ⌝ }
+    requires { ⌜ Reads (now left) «in_left» × Reads (now right) «in_right» × (canonical (modelOf (now left)) ≡ true) × (canonical (modelOf (now right)) ≡ true) × (sameSignature (signature (modelOf (now left))) (signature (modelOf (now right))) ≡ true) × (alike (modelOf (now left)) (modelOf (now right)) ≡ true) × OneToOne (modelOf (now left)) (now map) ⌝ }
     ensures { λ r. ⌜ r ≡ machine.closes (modelOf (now (left .entry))) (modelOf (now (right .entry))) (now (map .entry)) ⌝ }
 {
     let relations = in_left.relations;
-    let roots_start = in_right.roots;
-    let roots_end = roots_start + in_right.size;
-    let roots = &right[roots_start..roots_end];
     let mut k: usize = 0;
     while k < relations {
         let start = in_left.rows[k];
@@ -108,10 +108,7 @@ pub(crate) fn closes(
         let arity = in_left.arity[k];
         let rows = &left[start..];
         let others = &right[other_start..];
-        if !rows_kept(map, rows, count, roots, others, other_count, arity) {
-            return false;
-        }
-        if !rows_kept(roots, others, other_count, map, rows, count, arity) {
+        if !rows_found(map, rows, count, others, other_count, arity) {
             return false;
         }
         k += 1;

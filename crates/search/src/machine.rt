@@ -20,6 +20,7 @@ ghost use Rattle.search.specs.Machine as machine;
 ghost use Rattle.search.specs.Answer.{answerOf, written, cleared, workRoom, ended};
 ghost use Rattle.search.specs.Find.{roundCost, startFrom};
 ghost use Rattle.search.specs.Find as calls;
+ghost use Rattle.search.specs.Closing.{OneToOne};
 ghost use Rattle.search.specs.Choices.{choiceLength, choicesOn, choicesIn, sidesIn, stateOf, Rows, SmallSides, writtenIf, Settled};
 use crate::answer::Answer;
 use crate::choices::open_choice;
@@ -153,7 +154,7 @@ fn close(
     colours: Rows,
     out: &mut [u8],
 ) -> bool
-    requires { ⌜ Reads (now left) «in_left» × Reads (now right) «in_right» × (sameSignature (signature (modelOf (now left))) (signature (modelOf (now right))) ≡ true) × (canonical (modelOf (now right)) ≡ true) × (size (modelOf (now left)) ≤ length (now out)) × Rows colours ⌝ }
+    requires { ⌜ Reads (now left) «in_left» × Reads (now right) «in_right» × (canonical (modelOf (now left)) ≡ true) × (canonical (modelOf (now right)) ≡ true) × (sameSignature (signature (modelOf (now left))) (signature (modelOf (now right))) ≡ true) × (calls.alike (modelOf (now left)) (modelOf (now right)) ≡ true) × OneToOne (modelOf (now left)) (mapOf (modelOf (now left)) (modelOf (now right)) (sidesIn (modelOf (now left)) (modelOf (now right)) colours)) × (size (modelOf (now left)) ≤ length (now out)) × Rows colours ⌝ }
     ensures answer { λ r. ⌜ r ≡ machine.closes (modelOf (now (left .entry))) (modelOf (now (right .entry))) (mapOf (modelOf (now (left .entry))) (modelOf (now (right .entry))) (sidesIn (modelOf (now (left .entry))) (modelOf (now (right .entry))) colours)) ⌝ }
     ensures output { λ r. ⌜ now (out .exit) ≡ writtenIf r (mapOf (modelOf (now (left .entry))) (modelOf (now (right .entry))) (sidesIn (modelOf (now (left .entry))) (modelOf (now (right .entry))) colours)) (now (out .entry)) ⌝ }
 {
@@ -219,7 +220,7 @@ fn run(
     out: &mut [u8],
     work: &mut [u16],
 ) -> Answer
-    requires { ⌜ Reads (now left) «in_left» × Reads (now right) «in_right» × (sameSignature (signature (modelOf (now left))) (signature (modelOf (now right))) ≡ true) × (canonical (modelOf (now right)) ≡ true) × Board (modelOf (now left)) (modelOf (now right)) cells (take boardRoom (now work)) × Rows start × (size (modelOf (now left)) ≤ length (now out)) × (workRoom ≤ length (now work)) × SmallSides (modelOf (now left)) (modelOf (now right)) (sidesIn (modelOf (now left)) (modelOf (now right)) start) ⌝ }
+    requires { ⌜ Reads (now left) «in_left» × Reads (now right) «in_right» × (canonical (modelOf (now left)) ≡ true) × (canonical (modelOf (now right)) ≡ true) × (sameSignature (signature (modelOf (now left))) (signature (modelOf (now right))) ≡ true) × (calls.alike (modelOf (now left)) (modelOf (now right)) ≡ true) × Board (modelOf (now left)) (modelOf (now right)) cells (take boardRoom (now work)) × Rows start × (size (modelOf (now left)) ≤ length (now out)) × (workRoom ≤ length (now work)) × SmallSides (modelOf (now left)) (modelOf (now right)) (sidesIn (modelOf (now left)) (modelOf (now right)) start) ⌝ }
     ensures answer { λ r. ⌜ r ≡ answerOf (ended (machine.run budget roundCost (modelOf (now (left .entry))) (modelOf (now (right .entry))) budget 0 (machine.refine (sidesIn (modelOf (now (left .entry))) (modelOf (now (right .entry))) start) []))) ⌝ }
     ensures output { λ _. ⌜ now (out .exit) ≡ written (ended (machine.run budget roundCost (modelOf (now (left .entry))) (modelOf (now (right .entry))) budget 0 (machine.refine (sidesIn (modelOf (now (left .entry))) (modelOf (now (right .entry))) start) []))) (now (out .entry)) ⌝ }
     ensures work { λ _. ⌜ (length (now (work .exit)) ≡ length (now (work .entry))) × (drop workRoom (now (work .exit)) ≡ drop workRoom (now (work .entry))) ⌝ }

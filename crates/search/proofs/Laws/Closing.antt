@@ -1,34 +1,33 @@
 -- The laws of the closing check: the image of one element, the map by the roots as they are handed on, and the rows of
--- one relation, which in a canonical model are the same through the roots. Assumes nothing.
-use Prim.Native.Nat.{ℕ, _<_}
-use mathlib.Core.Path.{_≡_, refl, sym, _∙_, ap, ap₂}
+-- one relation, whose images among its counterpart's rows are the whole check. Assumes nothing.
+use Prim.Native.Nat.{ℕ}
+use mathlib.Core.Path.{_≡_, sym, _∙_, ap, subst}
 use mathlib.Core.Logic.{_⊎_, inl, inr}
 use mathlib.Core.Bool.{Bool, true, false, _&&_}
-use mathlib.Core.List.{List, [], _∷_, map, map-congr-left, List·Memᴰ, List·Memᴰ·head, List·Memᴰ·tail}
-use lib.Dec.{eqb}
-use lib.ListN.{length, getD}
+use mathlib.Core.List.{List, [], _∷_, map, map-congr-left, List·Memᴰ}
+use lib.ListN.{length}
 use Rattle.lists.specs.Every.{all}
 use Rattle.lists.specs.First.{lowest}
 use Rattle.lists.specs.Numbers.{upFrom}
 use Rattle.lists.specs.Part.{over}
 use Rattle.lists.proofs.Laws.Tests.{split}
-use Rattle.lists.proofs.Laws.Every.{all-none, all-yes, all-no, all-mem, getD-mem, getD-inside}
+use Rattle.lists.proofs.Laws.Every.{all-none, all-yes, all-no, all-mem}
 use Rattle.stored.specs.declared.layout.Layout.{Layout}
-use Rattle.stored.specs.Model.{Model, size, isRepIn, isRep, noRelation, relationAt}
-use Rattle.stored.specs.Canonical.{relationCanonical, canonical}
+use Rattle.stored.specs.Model.{Model, size, isRepIn, relationAt}
 use Rattle.stored.specs.Reading.{Reads, modelOf}
 use Rattle.stored.proofs.Laws.Reading.{reads-formed}
-use Rattle.stored.proofs.Laws.Canonical.{relation-canonical, all-canonical}
-use Rattle.stored.proofs.Laws.Representatives.{rep-below, rep-root}
 use Rattle.rows.specs.Rows.{through, hasRow, rowsKept}
 use Rattle.rows.proofs.Laws.Given.{rootsIn, roots-between, roots-count}
 use Rattle.rows.proofs.Laws.Rows.{kept-each}
-use Rattle.rows.proofs.Theorems.Through.{through-self}
+use Rattle.rows.proofs.Theorems.Among.{row-among, through-map}
 use Rattle.rounds.specs.Colours.{colourAt}
 use Rattle.rounds.specs.Round.{Sides}
 use Rattle.rounds.specs.Parts.{hasColour}
 use Rattle.rounds.proofs.Laws.Parts.{has-test}
 use Rattle.search.specs.Machine.{imageOf, imageIn, mapOf, closesAt}
+use Rattle.search.specs.Closing.{OneToOne}
+use Rattle.search.proofs.Theorems.Closing.{Into, rows-check}
+use Rattle.search.proofs.Theorems.Onto.{AlikeModels, into-onto}
 
 -- the image of one element
 module _ (roots roots' left right : List ℕ) (x : ℕ) where
@@ -73,25 +72,8 @@ all-map p f (x ∷ xs) = go (split (p (f x))) (all-map p f xs)
     go (inl e) ih = all-yes p (f x) (map f xs) e ∙ ih ∙ sym (all-yes (λ y. p (f y)) x xs e)
     go (inr e) ih = all-no p (f x) (map f xs) e ∙ sym (all-no (λ y. p (f y)) x xs e)
 
--- a function that leaves the members of a list as they are
-map-self : {A : Type 0} (f : A → A) (xs : List A) → ((x : A) → List·Memᴰ x xs → f x ≡ x) → map f xs ≡ xs
-map-self f [] h = refl
-map-self f (x ∷ xs) h = ap₂ _∷_ (h x (List·Memᴰ·head refl)) (map-self f xs (λ y m. h y (List·Memᴰ·tail m)))
-
--- in a canonical model the rows through the roots are the rows
-rep-self : (roots : List ℕ) (x : ℕ) → isRepIn roots x ≡ true → getD roots x 255 ≡ x
-rep-self roots x h = getD-inside roots x 255 0 (rep-below roots x h) ∙ rep-root roots x h
-
-canonical-rows : (m : Model) → canonical m ≡ true → (k : ℕ) → k < length (m .relations) → map (through (m .roots)) (relationAt m k .rows) ≡ relationAt m k .rows
-canonical-rows m h k l =
-    let e = all-mem (relationCanonical m) (m .relations) (sym (all-canonical m) ∙ h) (relationAt m k) (getD-mem (m .relations) k noRelation l) in
-    map-self (through (m .roots)) (relationAt m k .rows)
-    (λ row n.
-    let f = all-mem (all (isRep m)) (relationAt m k .rows) (sym (relation-canonical m (relationAt m k)) ∙ e) row n in
-    through-self (m .roots) row (λ x i. rep-self (m .roots) x (all-mem (isRep m) row f x i)))
-
--- the rows of one relation, each side among the other
-module _ (a b : Model) (f : List ℕ) (k : ℕ) (plain : canonical b ≡ true) (inside : k < length (b .relations)) where
+-- the rows of one relation, each taken through the map, among its counterpart's
+module _ (a b : Model) (f : List ℕ) (k : ℕ) where
   abbrev ours : List (List ℕ)
   ours = relationAt a k .rows
 
@@ -99,32 +81,20 @@ module _ (a b : Model) (f : List ℕ) (k : ℕ) (plain : canonical b ≡ true) (
   theirs = relationAt b k .rows
 
   abbrev pub into : Bool
-  into = rowsKept f ours (map (through (b .roots)) theirs)
-
-  abbrev pub back : Bool
-  back = rowsKept (b .roots) theirs (map (through f) ours)
+  into = rowsKept f ours theirs
 
   is-into : all (λ (row : List ℕ). hasRow row theirs) (map (through f) ours) ≡ into
-  is-into =
-      all-map (λ (row : List ℕ). hasRow row theirs) (through f) ours
-      ∙ ap (λ (rows : List (List ℕ)). all (λ (row : List ℕ). hasRow (through f row) rows) ours) (sym (canonical-rows b plain k inside))
-      ∙ sym (kept-each f ours (map (through (b .roots)) theirs))
-
-  is-back : all (λ (row : List ℕ). hasRow row (map (through f) ours)) theirs ≡ back
-  is-back =
-      ap (λ (rows : List (List ℕ)). all (λ (row : List ℕ). hasRow row (map (through f) ours)) rows) (sym (canonical-rows b plain k inside))
-      ∙ all-map (λ (row : List ℕ). hasRow row (map (through f) ours)) (through (b .roots)) theirs
-      ∙ sym (kept-each (b .roots) theirs (map (through f) ours))
-
-  both : closesAt a b f k ≡ into && back
-  unfolding closesAt
-  both = ap₂ _&&_ is-into is-back
+  is-into = all-map (λ (row : List ℕ). hasRow row theirs) (through f) ours ∙ sym (kept-each f ours theirs)
 
   pub not-into : into ≡ false → closesAt a b f k ≡ false
-  not-into e = both ∙ rw e
+  unfolding closesAt
+  not-into e = ap (λ (t : Bool). t && all (λ (row : List ℕ). hasRow row (map (through f) ours)) theirs) (is-into ∙ e)
 
-  pub not-back : into ≡ true → back ≡ false → closesAt a b f k ≡ false
-  not-back e g = both ∙ rw (e, g)
+  goes-into : into ≡ true → Into a b f k
+  goes-into e row m =
+      let r = all-mem (λ (row : List ℕ). hasRow (through f row) theirs) ours (sym (kept-each f ours theirs) ∙ e) row m in
+      subst (λ (v : List ℕ). List·Memᴰ v theirs) (through-map f row) (row-among (through f row) theirs r)
 
-  pub into-and-back : into ≡ true → back ≡ true → closesAt a b f k ≡ true
-  into-and-back e g = both ∙ rw (e, g)
+  -- it is the whole check where the map is one to one and the models are alike
+  pub into-closes : AlikeModels a b → OneToOne a f → into ≡ true → closesAt a b f k ≡ true
+  into-closes given one e = rows-check a b f k (goes-into e) (into-onto a b given f one k (goes-into e))

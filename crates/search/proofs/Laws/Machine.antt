@@ -31,10 +31,15 @@ use Rattle.search.specs.declared.machine.Phase.{Phase}
 use Rattle.search.specs.declared.machine.Phase.the-variants as phase
 use Rattle.search.specs.Machine.{Choice, State, refine, close, choose, done, Step, there, nowhere, takes, mapOf, closes, afterRound, afterClosing, nextChoice, step, Ended, found, none, exhausted, run}
 use Rattle.search.specs.Answer.{answerOf, written, workRoom, ended}
+use Rattle.search.specs.Find.{alike}
+use Rattle.search.specs.Closing.{OneToOne}
 use Rattle.search.specs.Choices.{choiceLength, choicesOn, choiceIn, candidateIn, choicesIn, sidesIn, stateOf, Rows, SmallSides, writtenIf, Reopened, Looked}
 use Rattle.search.proofs.Laws.Run.{run-there, run-nowhere, run-takes, run-out}
 use Rattle.search.proofs.Laws.Choices.{choice-goes, next-none, next-same, next-other}
 use Rattle.search.proofs.Theorems.Invariant.{Reached, here, next}
+use Rattle.search.proofs.Theorems.Steps.{reached-sound}
+use Rattle.search.proofs.Theorems.Onto.{AlikeModels}
+use Rattle.search.proofs.Theorems.Sound.{settled-one-to-one}
 use Rattle.search.proofs.Theorems.Small.{reached-small}
 use Rattle.search.proofs.Theorems.Choices.{openIn, Rising, Risen, reached-rising, open-choices}
 
@@ -118,8 +123,7 @@ choices-long a b w (suc depth) = ap suc (choices-long a b w depth)
 pub record Running (s t : List ℕ) (l m : Layout) (cells : ℕ) (start : List (List ℕ)) (budget : ℕ) (out₀ work₀ out work : List ℕ) (colours : List (List ℕ)) (due : Phase) (depth used : ℕ) : Type 0 where
   pub reads : Reads s l
   pub others : Reads t m
-  pub one : sameSignature (signature (modelOf s)) (signature (modelOf t)) ≡ true
-  pub canon : canonical (modelOf t) ≡ true
+  pub alikes : AlikeModels (modelOf s) (modelOf t)
   pub fits : size (modelOf s) ≤ length out₀
   pub room : workRoom ≤ length work₀
   pub board : Board (modelOf s) (modelOf t) cells (take boardRoom work)
@@ -196,8 +200,7 @@ module _ (s t : List ℕ) (l m : Layout) (cells : ℕ) (start : List (List ℕ))
     round-on n work' colours' due' depth' e k = record {
       reads = r .reads;
       others = r .others;
-      one = r .one;
-      canon = r .canon;
+      alikes = r .alikes;
       fits = r .fits;
       room = r .room;
       board = k .0;
@@ -217,6 +220,9 @@ module _ (s t : List ℕ) (l m : Layout) (cells : ℕ) (start : List (List ℕ))
     unfolding stateOf
     at-check = subst (λ (p : Phase). Goes a b budget (sidesIn a b start) used (stateOf p (sidesIn a b colours) now-choices)) q (r .goes)
 
+    pub check-one-to-one : OneToOne a its-map
+    check-one-to-one = settled-one-to-one a b (sidesIn a b colours) (reached-sound a b 1 (sidesIn a b start) (close (sidesIn a b colours) now-choices) (at-check .reached) .0)
+
     pub check-out : used ≡ budget → Answers (answer.Exhausted used) out work
     unfolding step
     check-out u = answers-exhausted (goes-out a b budget (sidesIn a b start) used _ at-check _ refl u)
@@ -234,8 +240,7 @@ module _ (s t : List ℕ) (l m : Layout) (cells : ℕ) (start : List (List ℕ))
       check-on p = record {
         reads = r .reads;
         others = r .others;
-        one = r .one;
-        canon = r .canon;
+        alikes = r .alikes;
         fits = r .fits;
         room = r .room;
         board = r .board;
@@ -328,8 +333,7 @@ module _ (s t : List ℕ) (l m : Layout) (cells : ℕ) (start : List (List ℕ))
         tried-on due' rows' e = record {
           reads = r .reads;
           others = r .others;
-          one = r .one;
-          canon = r .canon;
+          alikes = r .alikes;
           fits = r .fits;
           room = r .room;
           board = rw same-front (r .board);
@@ -358,15 +362,14 @@ module _ (s t : List ℕ) (l m : Layout) (cells : ℕ) (start : List (List ℕ))
 
 -- the first turn
 pub running-start :
-    (s t : List ℕ) (l m : Layout) (cells : ℕ) (start : List (List ℕ)) (budget : ℕ) (out work : List ℕ) → Reads s l → Reads t m → sameSignature (signature (modelOf s)) (signature (modelOf t)) ≡ true
-    → canonical (modelOf t) ≡ true → Board (modelOf s) (modelOf t) cells (take boardRoom work) → Rows start → size (modelOf s) ≤ length out → workRoom ≤ length work
-    → Running s t l m cells start budget out work out work start phase.Refine 0 0
+    (s t : List ℕ) (l m : Layout) (cells : ℕ) (start : List (List ℕ)) (budget : ℕ) (out work : List ℕ) → Reads s l → Reads t m → canonical (modelOf s) ≡ true → canonical (modelOf t) ≡ true
+    → sameSignature (signature (modelOf s)) (signature (modelOf t)) ≡ true → alike (modelOf s) (modelOf t) ≡ true → Board (modelOf s) (modelOf t) cells (take boardRoom work) → Rows start
+    → size (modelOf s) ≤ length out → workRoom ≤ length work → Running s t l m cells start budget out work out work start phase.Refine 0 0
 unfolding stateOf choicesIn
-running-start s t l m cells start budget out work reads others one canon board rows fits room = record {
+running-start s t l m cells start budget out work reads others plain plain' one like board rows fits room = record {
   reads = reads;
   others = others;
-  one = one;
-  canon = canon;
+  alikes = record { left-formed = reads-formed s l reads; right-formed = reads-formed t m others; left-plain = plain; right-plain = plain'; one-signature = one; are-alike = like };
   fits = fits;
   room = room;
   board = board;

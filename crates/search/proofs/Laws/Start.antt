@@ -29,6 +29,7 @@ use Rattle.search.specs.Answer.{workRoom, cleared, ended, answerOf, writ
 use Rattle.search.specs.declared.answer.Answer.{Answer}
 use Rattle.search.specs.Find.{roundCost, startFrom}
 use Rattle.search.specs.Choices.{sidesIn, Rows, SmallSides, writtenIf}
+use Rattle.search.specs.Closing.{OneToOne}
 use Rattle.search.proofs.Laws.Work.{length-cleared}
 use Rattle.search.proofs.Theorems.Small.{start-small}
 
@@ -112,6 +113,9 @@ module _ (s t : List ℕ) (l m : Layout) (p : Reads s l) (q : Reads t m) where
 
     map-front : take (l .size) table ≡ mapOf a b (sidesIn a b c)
     map-front = row-front s l p array (table-row array e) (mapOf a b (fronts c)) new (length-mapOf a b (fronts c)) w ∙ ap (mapOf a b) (fronts-sides c)
+
+    pub map-one-to-one : OneToOne a (mapOf a b (sidesIn a b c)) → OneToOne a (take (l .size) table)
+    map-one-to-one h = subst (OneToOne a) (sym map-front) h
 
     pub map-room : (out : List ℕ) → size a ≤ length out → length (take (l .size) table) ≤ length out
     map-room out h = omega (arith, map-long, size-is s l p)

@@ -53,7 +53,7 @@ module _ (a b : Model) (g : List ℕ) where
       let r = all-mem (imageIn k) (relationAt b k .rows) t row m in
       subst (List·Memᴰ row) (through-maps g (relationAt a k .rows)) (row-among row (map (through g) (relationAt a k .rows)) r)
 
-  rows-check : (k : ℕ) → Into k → Onto k → closesAt a b g k ≡ true
+  pub rows-check : (k : ℕ) → Into k → Onto k → closesAt a b g k ≡ true
   unfolding thereIn imageIn
   rows-check k into onto = check-rows k ∙ and-both _ _ (mem-all (thereIn k) (map (through g) (relationAt a k .rows)) there) (mem-all (imageIn k) (relationAt b k .rows) image)
     where

@@ -28,6 +28,7 @@ use Rattle.rounds.proofs.Theorems.Single.{TellsApart, lowest-reached, stable-ro
 use Rattle.search.specs.Machine.{refine, imageOf, mapOf, closes, found, run}
 use Rattle.search.specs.Partners.{Partners}
 use Rattle.search.specs.Find.{searched}
+use Rattle.search.specs.Closing.{OneToOne}
 use Rattle.search.proofs.Theorems.Closing.{closes-into, closes-onto}
 use Rattle.search.proofs.Theorems.Steps.{SingleStable, Closed, found-closed, searched-closed}
 
@@ -99,6 +100,10 @@ module _ (a b : Model) (c : Sides) (matching : Matching a b c) where
   map-onto y n =
       let o = matching .to-left y n in
       (o .0, o .1, matching .apart-right (entryOf (mapOf a b c) (o .0)) y (map-to-rep (o .0) (o .1)) n (map-colour (o .0) (o .1) ∙ o .2))
+
+-- the map of stable single colours is one to one
+pub settled-one-to-one : (a b : Model) (c : Sides) → SingleStable a b c → OneToOne a (mapOf a b c)
+settled-one-to-one a b c s = map-one-to-one a b c (settled-matching a b c s)
 
 -- a map as it is found
 pub record Sound (a b : Model) (g : List ℕ) : Type 0 where

@@ -1,37 +1,38 @@
--- `search::closing::closes` meets its contract. The invariant: both files were read, their models have one signature and the right one is canonical, and
--- the relations from k on close where all do; the measure is the number of relations left. Assumes nothing.
+-- `search::closing::closes` meets its contract. The invariant: both files were read, their models are canonical, of one signature and alike, the map is one to
+-- one, and the relations from k on close where all do; the measure is the number of relations left. Assumes nothing.
 use Prim.Native.Nat.{ℕ, _+_, _-_, _<_, _≤_}
 use mathlib.Core.Path.{_≡_, sym, _∙_}
 use mathlib.Core.Bool.{Bool, true, false}
-use mathlib.Core.List.{List, map}
+use mathlib.Core.List.{List}
 use native.Mathlib.Omega.{arith}
 use borrow.Author.Needs.{needs}
 use borrow.Author.Tests.{not-true, not-false}
 use lib.ListN.{length, getD}
+use Rattle.lists.specs.Order.{ascending}
 use Rattle.lists.specs.Part.{rowsOf}
 use Rattle.lists.proofs.Laws.Numbers.{UpFrom, up-from, up-passed, up-failed, up-over}
 use Rattle.stored.specs.declared.layout.Layout.{Layout}
-use Rattle.stored.specs.Limits.{maxRelations}
+use Rattle.stored.specs.Limits.{maxRelations, maxArity}
 use Rattle.stored.specs.Model.{relationAt}
-use Rattle.stored.specs.Canonical.{canonical}
 use Rattle.stored.specs.Reading.{modelOf}
-use Rattle.stored.proofs.Laws.Reading.{roots-inside, relations-is, few-relations}
+use Rattle.stored.proofs.Laws.Reading.{reads-formed, relations-is, relation-there, few-relations}
+use Rattle.stored.proofs.Laws.WellFormed.{RelationFormed}
 use Rattle.stored.proofs.Laws.Canonical.{RowsThere, rows-there}
-use Rattle.rows.specs.Rows.{through, rowsKept}
-use Rattle.rows.proofs.Laws.Given.{rootsIn, roots-between}
-use Rattle.rows.proofs.Laws.Rows.{rowsAt, Alike, as-many-relations, target-rows}
+use Rattle.rows.specs.Rows.{rowsKept}
+use Rattle.rows.proofs.Laws.Rows.{rowsAt, Alike, as-many-relations, same-arity, target-rows}
+use Rattle.rows.proofs.Laws.Canonical.{relation-formed}
 use Rattle.search.specs.Machine.{closesAt, closes}
-use Rattle.search.proofs.Laws.Closing.{into, back, not-into, not-back, into-and-back}
+use Rattle.search.specs.Closing.{OneToOne}
+use Rattle.search.proofs.Laws.Closing.{into, not-into, into-closes}
+use Rattle.search.proofs.Theorems.Onto.{AlikeModels}
 use Rattle.search.proofs.closing.closes.Statement.{statement}
 use Rattle.search.proofs.closing.closes.Tie as tie
 
 record Passed (s t f : List ℕ) (l m : Layout) (k : ℕ) : Type 0 where
   pub alike : Alike s t l m
-  pub plain : canonical (modelOf t) ≡ true
+  pub models : AlikeModels (modelOf s) (modelOf t)
+  pub one-to-one : OneToOne (modelOf s) f
   pub from : UpFrom (closesAt (modelOf s) (modelOf t) f) (length (modelOf s .relations)) k
-
-start : (s t f : List ℕ) (l m : Layout) → Alike s t l m → canonical (modelOf t) ≡ true → Passed s t f l m 0
-start s t f l m h p = record { alike = h; plain = p; from = up-from _ _ }
 
 module _ (s t f : List ℕ) (l m : Layout) (k : ℕ) (i : Passed s t f l m k) where
   done : l .relations ≤ k → true ≡ closes (modelOf s) (modelOf t) f
@@ -51,59 +52,56 @@ module _ (s t f : List ℕ) (l m : Layout) (k : ℕ) (i : Passed s t f l m k) wh
     inside : k < length (modelOf s .relations)
     inside = omega (arith, relations-is s l (i .alike .0))
 
-    there : k < length (modelOf t .relations)
-    there = omega (arith, relations-is t m (i .alike .1), as-many-relations s t l m (i .alike))
+    there : k < m .relations
+    there = omega (arith, as-many-relations s t l m (i .alike))
 
-    -- the rows of relation k as they are handed on, and the answers for them
+    formed : RelationFormed (modelOf t .sizes) (relationAt (modelOf t) k)
+    formed = relation-formed t m (i .alike .1) k there
+
+    short : getD (l .arity) k 0 ≤ maxArity
+    short = omega (arith, formed .small-arity, same-arity s t l m (i .alike) k h, relation-there t m (i .alike .1) k there .is-arity)
+
+    -- the rows of relation k as they are handed on, and the answer for them
     abbrev given : List (List ℕ)
     given = rowsOf (getD (l .arity) k 0) (getD (l .count) k 0) (rowsAt s l k)
 
     abbrev among : List (List ℕ)
     among = rowsOf (getD (l .arity) k 0) (getD (m .count) k 0) (rowsAt t m k)
 
-    module _ (r : Bool) (e : r ≡ rowsKept f given (map (through (rootsIn t m)) among)) where
-      is-into : into (modelOf s) (modelOf t) f k (i .plain) there ≡ r
-      is-into = sym (rw (roots-between t m (i .alike .1), rows .same, others .same) at e)
+    among-ascend : ascending among ≡ true
+    among-ascend = rw (others .same) (formed .rows-ascend)
 
-      stop-into : r ≡ false → false ≡ closes (modelOf s) (modelOf t) f
+    module _ (r : Bool) (e : r ≡ rowsKept f given among) where
+      is-into : into (modelOf s) (modelOf t) f k ≡ r
+      is-into = sym (rw (rows .same, others .same) at e)
+
+      stop : r ≡ false → false ≡ closes (modelOf s) (modelOf t) f
       unfolding closes
-      stop-into q = up-failed (i .from) inside (not-into (modelOf s) (modelOf t) f k (i .plain) there (is-into ∙ q))
+      stop q = up-failed (i .from) inside (not-into (modelOf s) (modelOf t) f k (is-into ∙ q))
 
-      module _ (t-into : r ≡ true) (r' : Bool) (e' : r' ≡ rowsKept (rootsIn t m) among (map (through f) given)) where
-        is-back : back (modelOf s) (modelOf t) f k (i .plain) there ≡ r'
-        is-back = sym (rw (roots-between t m (i .alike .1), rows .same, others .same) at e')
-
-        stop-back : r' ≡ false → false ≡ closes (modelOf s) (modelOf t) f
-        unfolding closes
-        stop-back q = up-failed (i .from) inside (not-back (modelOf s) (modelOf t) f k (i .plain) there (is-into ∙ t-into) (is-back ∙ q))
-
-        more : r' ≡ true → Passed s t f l m (k + 1)
-        more q = record {
-          alike = i .alike;
-          plain = i .plain;
-          from = up-passed (i .from) inside (into-and-back (modelOf s) (modelOf t) f k (i .plain) there (is-into ∙ t-into) (is-back ∙ q));
-        }
+      more : r ≡ true → Passed s t f l m (k + 1)
+      more q = record {
+        alike = i .alike;
+        models = i .models;
+        one-to-one = i .one-to-one;
+        from = up-passed (i .from) inside (into-closes (modelOf s) (modelOf t) f k (i .models) (i .one-to-one) (is-into ∙ q));
+      }
 
 abbrev Inv-loop : tie.InvT-loop
-Inv-loop left right map in-left in-right relations roots-start roots-end roots k₀ k = Passed left right map in-left in-right k
+Inv-loop left right map in-left in-right relations k₀ k = Passed left right map in-left in-right k
 
 abbrev μ-loop : tie.MeasureT-loop
-μ-loop left right map in-left in-right relations roots-start roots-end roots k₀ k = relations - k
-
-add-roots-end : tie.Need-add-roots-end Inv-loop μ-loop
-add-roots-end c = omega (arith, roots-inside _ _ (c .before .before .before .pre .1))
-
-sub-roots : tie.Need-sub-roots Inv-loop μ-loop
-sub-roots c = search needs
-
-part-roots-start : tie.Need-part-roots-start Inv-loop μ-loop
-part-roots-start c = search needs
-
-part-roots-end : tie.Need-part-roots-end Inv-loop μ-loop
-part-roots-end c = roots-inside _ _ (c .before .before .before .pre .1)
+μ-loop left right map in-left in-right relations k₀ k = relations - k
 
 loop-holds : tie.Need-loop-holds Inv-loop μ-loop
-loop-holds c = let p = c .before .before .before .before .pre in start _ _ _ _ _ (p .0, p .1, p .2) (p .3)
+loop-holds c =
+    let p = c .before .before .before .pre in
+    record {
+      alike = (p .0, p .1, p .4);
+      models = record { left-formed = reads-formed _ _ (p .0); right-formed = reads-formed _ _ (p .1); left-plain = p .2; right-plain = p .3; one-signature = p .4; are-alike = p .5 };
+      one-to-one = p .6;
+      from = up-from _ _;
+    }
 
 mul-start : tie.Need-mul-start Inv-loop μ-loop
 mul-start c = omega (arith, few _ _ _ _ _ _ (c .before .loop .inv) (c .loop-test .taken))
@@ -153,37 +151,31 @@ part-others-start c = let k = c .before .before .before .before .before .before 
 part-others-end : tie.Need-part-others-end Inv-loop μ-loop
 part-others-end c = search needs
 
-rows-kept-requires : tie.Need-rows-kept-requires Inv-loop μ-loop
-rows-kept-requires c κs =
+rows-found-requires : tie.Need-rows-found-requires Inv-loop μ-loop
+rows-found-requires c κs =
     let k = c .before .before .before .before .before .before .before in
-    (rows _ _ _ _ _ _ (k .before .loop .inv) (k .loop-test .taken) .inside, others _ _ _ _ _ _ (k .before .loop .inv) (k .loop-test .taken) .inside)
+    let i = k .before .loop .inv in
+    let h = k .loop-test .taken in
+    (short _ _ _ _ _ _ i h, rows _ _ _ _ _ _ i h .inside, others _ _ _ _ _ _ i h .inside, among-ascend _ _ _ _ _ _ i h)
 
 returns : tie.Need-returns Inv-loop μ-loop
-returns c = let k = c .before .before .before .before .before .before .before .before .before in stop-into _ _ _ _ _ _ (k .before .loop .inv) (k .loop-test .taken) _ (c .before .rows-kept .ensures) (not-true _ (c .if1 .taken))
-
-rows-kept-requires-2 : tie.Need-rows-kept-requires-2 Inv-loop μ-loop
-rows-kept-requires-2 c κs =
+returns c =
     let k = c .before .before .before .before .before .before .before .before .before in
-    (others _ _ _ _ _ _ (k .before .loop .inv) (k .loop-test .taken) .inside, rows _ _ _ _ _ _ (k .before .loop .inv) (k .loop-test .taken) .inside)
-
-returns-2 : tie.Need-returns-2 Inv-loop μ-loop
-returns-2 c =
-    let k = c .before .before .before .before .before .before .before .before .before .before .before in
-    stop-back _ _ _ _ _ _ (k .before .loop .inv) (k .loop-test .taken) _ (c .before .before .before .rows-kept .ensures) (not-false _ (c .before .before .if1 .left)) _ (c .before .rows-kept2 .ensures) (not-true _ (c .if2 .taken))
+    stop _ _ _ _ _ _ (k .before .loop .inv) (k .loop-test .taken) _ (c .before .rows-found .ensures) (not-true _ (c .if1 .taken))
 
 add-k : tie.Need-add-k Inv-loop μ-loop
-add-k c = let k = c .before .before .before .before .before .before .before .before .before .before .before in omega (arith, few _ _ _ _ _ _ (k .before .loop .inv) (k .loop-test .taken))
+add-k c = let k = c .before .before .before .before .before .before .before .before .before in omega (arith, few _ _ _ _ _ _ (k .before .loop .inv) (k .loop-test .taken))
 
 loop-less : tie.Need-loop-less Inv-loop μ-loop
 loop-less c = search needs
 
 loop-again : tie.Need-loop-again Inv-loop μ-loop
 loop-again c =
-    let k = c .before .before .before .before .before .before .before .before .before .before .before in
-    more _ _ _ _ _ _ (k .before .loop .inv) (k .loop-test .taken) _ (c .before .before .before .rows-kept .ensures) (not-false _ (c .before .before .if1 .left)) _ (c .before .rows-kept2 .ensures) (not-false _ (c .if2 .left))
+    let k = c .before .before .before .before .before .before .before .before .before in
+    more _ _ _ _ _ _ (k .before .loop .inv) (k .loop-test .taken) _ (c .before .rows-found .ensures) (not-false _ (c .if1 .left))
 
-returns-3 : tie.Need-returns-3 Inv-loop μ-loop
-returns-3 c = done _ _ _ _ _ _ (c .before .loop .inv) (c .loop-test .left)
+returns-2 : tie.Need-returns-2 Inv-loop μ-loop
+returns-2 c = done _ _ _ _ _ _ (c .before .loop .inv) (c .loop-test .left)
 
 pub closes-spec : {M : Type 1} → statement M
 closes-spec =
@@ -191,10 +183,6 @@ closes-spec =
     (tie.spec
     Inv-loop
     μ-loop
-    add-roots-end
-    sub-roots
-    part-roots-start
-    part-roots-end
     loop-holds
     mul-start
     element-copy-out-start
@@ -212,11 +200,9 @@ closes-spec =
     sub-others
     part-others-start
     part-others-end
-    rows-kept-requires
+    rows-found-requires
     returns
-    rows-kept-requires-2
-    returns-2
     add-k
     loop-less
     loop-again
-    returns-3)
+    returns-2)

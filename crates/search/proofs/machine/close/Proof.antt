@@ -3,7 +3,7 @@
 use mathlib.Core.List.{[]}
 use borrow.Author.Needs.{needs}
 use lib.ListN.{getD}
-use Rattle.search.proofs.Laws.Start.{row-fits, row-long, row-asked, table-row, map-fits, map-long, map-room, closed, not-closed}
+use Rattle.search.proofs.Laws.Start.{row-fits, row-long, row-asked, table-row, map-fits, map-long, map-one-to-one, map-room, closed, not-closed}
 use Rattle.search.proofs.Laws.Tables.{table-fits, table-long}
 use Rattle.search.proofs.machine.close.Statement.{statement}
 use Rattle.search.proofs.machine.close.Tie as tie
@@ -18,16 +18,16 @@ no-images-requires : tie.Need-no-images-requires
 no-images-requires c κs = search needs
 
 array-share-prefix-row : tie.Need-array-share-prefix-row
-array-share-prefix-row c = let k = c .before .before .before .before .before .before in row-fits _ _ (k .pre .0) (getD (k .args .t5) 0 []) (k .pre .5 .1)
+array-share-prefix-row c = let k = c .before .before .before .before .before .before in row-fits _ _ (k .pre .0) (getD (k .args .t5) 0 []) (k .pre .8 .1)
 
 slice-aggregate-map-of : tie.Need-slice-aggregate-map-of
-slice-aggregate-map-of c = let k = c .before .before .before .before .before .before .before in row-long _ _ (k .pre .0) (getD (k .args .t5) 0 []) (k .pre .5 .1)
+slice-aggregate-map-of c = let k = c .before .before .before .before .before .before .before in row-long _ _ (k .pre .0) (getD (k .args .t5) 0 []) (k .pre .8 .1)
 
 array-share-prefix-other : tie.Need-array-share-prefix-other
-array-share-prefix-other c = let k = c .before .before .before .before .before .before .before in row-fits _ _ (k .pre .1) (getD (k .args .t5) 1 []) (k .pre .5 .2)
+array-share-prefix-other c = let k = c .before .before .before .before .before .before .before in row-fits _ _ (k .pre .1) (getD (k .args .t5) 1 []) (k .pre .8 .2)
 
 slice-aggregate-map-of-2 : tie.Need-slice-aggregate-map-of-2
-slice-aggregate-map-of-2 c = let k = c .before .before .before .before .before .before .before .before in row-long _ _ (k .pre .1) (getD (k .args .t5) 1 []) (k .pre .5 .2)
+slice-aggregate-map-of-2 c = let k = c .before .before .before .before .before .before .before .before in row-long _ _ (k .pre .1) (getD (k .args .t5) 1 []) (k .pre .8 .2)
 
 array-borrow-prefix-map : tie.Need-array-borrow-prefix-map
 array-borrow-prefix-map c = let k = c .before .before in table-fits _ _ (k .before .before .before .before .before .before .pre .0) _ (k .no-images .ensures)
@@ -56,7 +56,12 @@ slice-aggregate-closes c =
     map-long _ _ _ _ (a .pre .0) (a .pre .1) (a .args .t5) _ (k .no-images .ensures) _ (g .map-of .ensures)
 
 closes-requires : tie.Need-closes-requires
-closes-requires c κs = let p = c .before .before .before .before .before .before .before .before .before .before .before .before .pre in (p .0, p .1, p .2, p .3)
+closes-requires c κs =
+    let g = c .before .before in
+    let k = g .before .before .before .before in
+    let a = k .before .before .before .before .before .before in
+    let p = a .pre in
+    (p .0, p .1, p .2, p .3, p .4, p .5, map-one-to-one _ _ _ _ (p .0) (p .1) (a .args .t5) _ (k .no-images .ensures) _ (g .map-of .ensures) (p .6))
 
 array-share-prefix-map-2 : tie.Need-array-share-prefix-map-2
 array-share-prefix-map-2 c =
@@ -77,7 +82,7 @@ put-requires c κs =
     let g = c .before .before .before .before .before .before in
     let k = g .before .before .before .before in
     let a = k .before .before .before .before .before .before in
-    map-room _ _ _ _ (a .pre .0) (a .pre .1) (a .args .t5) _ (k .no-images .ensures) _ (g .map-of .ensures) (a .args .out .now) (a .pre .4)
+    map-room _ _ _ _ (a .pre .0) (a .pre .1) (a .args .t5) _ (k .no-images .ensures) _ (g .map-of .ensures) (a .args .out .now) (a .pre .7)
 
 same-length : tie.Need-same-length
 same-length c = search needs

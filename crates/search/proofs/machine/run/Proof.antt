@@ -6,7 +6,7 @@ use native.Mathlib.Omega.{arith}
 use borrow.Author.Needs.{needs}
 use lib.ListN.{length}
 use Rattle.rows.proofs.Laws.Given.{size-few}
-use Rattle.search.proofs.Laws.Machine.{Running, running-start, depth-few, work-room, choices-fit, round-small, round-out, round-on, check-out, check-found, check-on, choice-none, choice-out, element-known, stay-fits, candidate-there, choice-same, choice-other}
+use Rattle.search.proofs.Laws.Machine.{Running, running-start, depth-few, work-room, choices-fit, round-small, round-out, round-on, check-one-to-one, check-out, check-found, check-on, choice-none, choice-out, element-known, stay-fits, candidate-there, choice-same, choice-other}
 use Rattle.search.proofs.machine.run.Statement.{statement}
 use Rattle.search.proofs.machine.run.Tie as tie
 
@@ -17,7 +17,7 @@ abbrev μ-loop : tie.MeasureT-loop
 μ-loop left in-left right in-right cells budget out₀ work₀ colours₀ phase₀ depth₀ used₀ out work colours phase depth used = budget - used
 
 loop-holds : tie.Need-loop-holds Inv-loop μ-loop
-loop-holds c = let p = c .before .before .before .before .pre in running-start _ _ _ _ _ _ _ _ _ (p .0) (p .1) (p .2) (p .3) (p .4) (p .5) (p .6) (p .7)
+loop-holds c = let p = c .before .before .before .before .pre in running-start _ _ _ _ _ _ _ _ _ (p .0) (p .1) (p .2) (p .3) (p .4) (p .5) (p .6) (p .7) (p .8) (p .9)
 
 enum-told : tie.Need-enum-told Inv-loop μ-loop
 enum-told c = search needs
@@ -37,7 +37,7 @@ add-used c = search needs
 refine-requires : tie.Need-refine-requires Inv-loop μ-loop
 refine-requires c κs =
     let r = c .before .before .before .before .before .loop .inv in
-    (r .reads, r .others, r .one, r .board, work-room _ _ _ _ _ _ _ _ _ _ _ _ _ _ _ r, omega (arith, depth-few _ _ _ _ _ _ _ _ _ _ _ _ _ _ _ r), r .rows, round-small _ _ _ _ _ _ _ _ _ _ _ _ _ _ _ r (c .before .before .before .enum-told .given .1) (c .before .before .before .before .before .before .before .before .before .before .pre .8))
+    (r .reads, r .others, r .alikes .one-signature, r .board, work-room _ _ _ _ _ _ _ _ _ _ _ _ _ _ _ r, omega (arith, depth-few _ _ _ _ _ _ _ _ _ _ _ _ _ _ _ r), r .rows, round-small _ _ _ _ _ _ _ _ _ _ _ _ _ _ _ r (c .before .before .before .enum-told .given .1) (c .before .before .before .before .before .before .before .before .before .before .pre .10))
 
 loop-less : tie.Need-loop-less Inv-loop μ-loop
 loop-less c = omega (arith, c .before .before .before .before .before .before .before .before .loop .inv .goes .spent, c .before .before .before .before .before .if1 .left)
@@ -63,7 +63,10 @@ add-used-2 : tie.Need-add-used-2 Inv-loop μ-loop
 add-used-2 c = search needs
 
 close-requires : tie.Need-close-requires Inv-loop μ-loop
-close-requires c κs = let r = c .before .before .before .before .loop .inv in (r .reads, r .others, r .one, r .canon, omega (arith, r .fits, ap length (r .same-out)), r .rows)
+close-requires c κs =
+    let r = c .before .before .before .before .loop .inv in
+    let m = r .alikes in
+    (r .reads, r .others, m .left-plain, m .right-plain, m .one-signature, m .are-alike, check-one-to-one _ _ _ _ _ _ _ _ _ _ _ _ _ _ _ r (c .before .before .enum-told2 .given .1), omega (arith, r .fits, ap length (r .same-out)), r .rows)
 
 same-length-5 : tie.Need-same-length-5 Inv-loop μ-loop
 same-length-5 c = c .before .before .before .close .kept .1 .1 .1 .1 .1 .0 ∙ ap length (c .before .before .before .before .before .before .before .before .loop .inv .same-out)

@@ -36,7 +36,7 @@ run-requires c κs =
     let u = o .before .before .before in
     let v = u .before .before .before .before in
     let p = v .before .before .before .before .before .before .before .before .pre in
-    (p .0, p .1, p .4, p .3, board-there _ _ (p .8) (v .clear .ensures) (u .set-up .last .1 .1 .1 .1 .0) (u .set-up .kept .1 .1 .1 .1 .0) _ _ _ (u .set-up .ensures), o .first-colours .ensures .1, p .7, work-room _ _ (p .8) (v .clear .ensures) (u .set-up .last .1 .1 .1 .1 .0) (u .set-up .kept .1 .1 .1 .1 .0), first-small _ _ (reads-formed _ _ (p .0)) (reads-formed _ _ (p .1)) _ _ (p .6) _ (o .first-colours .ensures .0))
+    (p .0, p .1, p .2, p .3, p .4, p .5, board-there _ _ (p .8) (v .clear .ensures) (u .set-up .last .1 .1 .1 .1 .0) (u .set-up .kept .1 .1 .1 .1 .0) _ _ _ (u .set-up .ensures), o .first-colours .ensures .1, p .7, work-room _ _ (p .8) (v .clear .ensures) (u .set-up .last .1 .1 .1 .1 .0) (u .set-up .kept .1 .1 .1 .1 .0), first-small _ _ (reads-formed _ _ (p .0)) (reads-formed _ _ (p .1)) _ _ (p .6) _ (o .first-colours .ensures .0))
 
 clear-requires-2 : tie.Need-clear-requires-2
 clear-requires-2 c κs =
