@@ -4,10 +4,14 @@ pub mod Counts
 pub mod Classes
 pub mod Cells
 pub mod Board
+pub mod Listed
+pub mod Buckets
 pub mod Numbers
-pub mod Chain
+pub mod Bags
 pub mod Tables
+pub mod Segments
 pub mod Keys
+pub mod Holders
 pub mod Grouping
 pub mod Places
 pub mod Numbered

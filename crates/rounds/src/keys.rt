@@ -1,68 +1,97 @@
-// Whether two elements on the board have the same key: one colour, and as many cells of each number.
+// Whether two elements on the board have the same key: one colour, and as many places of each number.
 ghost use mathlib.Core.Path.{_≡_};
+ghost use mathlib.Core.Bool.{true, false};
 ghost use Prim.Native.Nat.{ℕ, _≤_, _<_, _+_};
 ghost use lib.Dec.{eqb};
-ghost use lib.ListN.{length, getD};
-ghost use Rattle.lists.specs.Every.{all};
-ghost use Rattle.lists.specs.First.{firstAt};
-ghost use Rattle.rounds.specs.Board.{countStart, otherStart, headStart, placesOn, alikeOn, Linked, Small, Empty, Counts, OnlyTable, Ready};
+ghost use lib.ListN.{getD};
+ghost use Rattle.lists.specs.Every.{howMany};
+ghost use Rattle.rounds.specs.Board.{countStart, cellsOn, startOf, segment, markOn, alikeOn, Listed, Segment, Empty, Counts, OnlyTable, Ready};
 use crate::numbers::colour_of;
-
-const NEXT: usize = 4096;
 
 const NUMBERS: usize = 8192;
 
 const COUNTS: usize = 12288;
 
-const OTHERS: usize = 16384;
+const STARTS: usize = 20480;
 
-const HEAD: usize = 20480;
-
-// Counts the numbers of an element's cells in an empty table.
-fn count_up(board: &mut [u16], cells: usize, table: usize, x: usize)
-    requires { ⌜ Linked cells (now board) × Small cells (now board) × (x < 128) × (countStart ≤ table) × (table ≤ otherStart) × Empty table (now board) ⌝ }
-    ensures counts { λ _. ⌜ Counts table (placesOn cells (now (board .entry)) x) (now (board .exit)) ⌝ }
-    ensures kept { λ _. ⌜ OnlyTable table (now (board .entry)) (now (board .exit)) ⌝ }
+// Where the places of an element end.
+fn end_of(board: &[u16], cells: usize, x: usize) -> usize
+    requires { ⌜ Listed cells (now board) × (x < 128) ⌝ }
+    ensures { λ r. ⌜ r ≡ startOf (cellsOn cells (now (board .entry))) x + howMany (eqb x) (cellsOn cells (now (board .entry))) ⌝ }
 {
-    let mut c = board[HEAD + x] as usize;
-    while c < cells {
-        let at = table + board[NUMBERS + c] as usize;
-        board[at] += 1;
-        c = board[NEXT + c] as usize;
+    if x < 127 {
+        board[STARTS + 1 + x] as usize
+    } else {
+        cells
     }
 }
 
-// Whether both tables have the same count at each number of an element's cells.
-fn counts_agree(board: &[u16], cells: usize, x: usize) -> bool
-    requires { ⌜ Linked cells (now board) × Small cells (now board) × (x < 128) ⌝ }
-    ensures { λ r. ⌜ r ≡ all (λ (n : ℕ). eqb (getD (now (board .entry)) (countStart + n) 0) (getD (now (board .entry)) (otherStart + n) 0)) (placesOn cells (now (board .entry)) x) ⌝ }
+// Counts a segment's numbers in an empty table.
+fn count_up(board: &mut [u16], from: usize, end: usize)
+    requires { ⌜ Segment from end (now board) × Empty countStart (now board) ⌝ }
+    ensures counts { λ _. ⌜ Counts countStart (segment from end (now (board .entry))) (now (board .exit)) ⌝ }
+    ensures kept { λ _. ⌜ OnlyTable countStart (now (board .entry)) (now (board .exit)) ⌝ }
 {
-    let mut c = board[HEAD + x] as usize;
-    while c < cells {
-        let n = board[NUMBERS + c] as usize;
-        if board[COUNTS + n] != board[OTHERS + n] {
+    let mut i = from;
+    while i < end {
+        let at = COUNTS + board[NUMBERS + i] as usize;
+        board[at] += 1;
+        i += 1;
+    }
+}
+
+// Takes a segment's numbers off the counts; tells whether there were enough of each, and stops where there were not.
+fn count_down(board: &mut [u16], from: usize, end: usize) -> bool
+    requires { ⌜ Segment from end (now board) ⌝ }
+    ensures enough { λ r. ⌜ (r ≡ true → (n : ℕ) → n < 4096 → getD (now (board .exit)) (countStart + n) 0 + howMany (eqb n) (segment from end (now (board .entry))) ≡ getD (now (board .entry)) (countStart + n) 0) ⌝ }
+    ensures missing { λ r. ⌜ (r ≡ false → (n : ℕ) × (n < 4096) × (getD (now (board .entry)) (countStart + n) 0 < howMany (eqb n) (segment from end (now (board .entry))))) ⌝ }
+    ensures fewer { λ _. ⌜ ((n : ℕ) → n < 4096 → getD (now (board .exit)) (countStart + n) 0 ≤ getD (now (board .entry)) (countStart + n) 0) ⌝ }
+    ensures kept { λ _. ⌜ OnlyTable countStart (now (board .entry)) (now (board .exit)) ⌝ }
+{
+    let mut i = from;
+    while i < end {
+        let at = COUNTS + board[NUMBERS + i] as usize;
+        let count = board[at];
+        if count == 0 {
             return false;
         }
-        c = board[NEXT + c] as usize;
+        board[at] = count - 1;
+        i += 1;
     }
     true
 }
 
-// Empties a table that counts the numbers of an element's cells.
-fn clear_counts(board: &mut [u16], cells: usize, table: usize, x: usize)
-    requires { ⌜ Linked cells (now board) × Small cells (now board) × (x < 128) × (countStart ≤ table) × (table ≤ otherStart) × Counts table (placesOn cells (now board) x) (now board) ⌝ }
-    ensures emptied { λ _. ⌜ Empty table (now (board .exit)) ⌝ }
-    ensures kept { λ _. ⌜ OnlyTable table (now (board .entry)) (now (board .exit)) ⌝ }
+// Empties a table that counts a segment's numbers alone.
+fn clear_counts(board: &mut [u16], from: usize, end: usize)
+    requires { ⌜ Segment from end (now board) × ((n : ℕ) → n < 4096 → howMany (eqb n) (segment from end (now board)) ≡ 0 → getD (now board) (countStart + n) 0 ≡ 0) ⌝ }
+    ensures emptied { λ _. ⌜ Empty countStart (now (board .exit)) ⌝ }
+    ensures kept { λ _. ⌜ OnlyTable countStart (now (board .entry)) (now (board .exit)) ⌝ }
 {
-    let mut c = board[HEAD + x] as usize;
-    while c < cells {
-        let at = table + board[NUMBERS + c] as usize;
+    let mut i = from;
+    while i < end {
+        let at = COUNTS + board[NUMBERS + i] as usize;
         board[at] = 0;
-        c = board[NEXT + c] as usize;
+        i += 1;
     }
 }
 
-// Whether two elements have the same key (`refinement_keys` of model_hom.rs). The tables are empty before and after.
+// The mark of an element: the sum of the cubes of its numbers, the same for elements of one key.
+pub(crate) fn mark_of(board: &[u16], cells: usize, x: usize) -> u64
+    requires { ⌜ Ready cells (now board) × (x < 128) ⌝ }
+    ensures { λ r. ⌜ r ≡ markOn cells (now (board .entry)) x ⌝ }
+{
+    let end = end_of(board, cells, x);
+    let mut sum: u64 = 0;
+    let mut i = board[STARTS + x] as usize;
+    while i < end {
+        let n = board[NUMBERS + i] as u64;
+        sum += n * n * n;
+        i += 1;
+    }
+    sum
+}
+
+// Whether two elements have the same key (`refinement_keys` of model_hom.rs). The table is empty before and after.
 pub(crate) fn same_key(board: &mut [u16], cells: usize, x: usize, y: usize) -> bool
     requires { ⌜ Ready cells (now board) × (x < 128) × (y < 128) ⌝ }
     ensures answer { λ r. ⌜ r ≡ alikeOn cells (now (board .entry)) x y ⌝ }
@@ -73,28 +102,17 @@ pub(crate) fn same_key(board: &mut [u16], cells: usize, x: usize, y: usize) -> b
     if own != other {
         return false;
     }
-    count_up(board, cells, COUNTS, x);
-    count_up(board, cells, OTHERS, y);
-    let first = counts_agree(board, cells, x);
-    let second = counts_agree(board, cells, y);
-    clear_counts(board, cells, COUNTS, x);
-    clear_counts(board, cells, OTHERS, y);
-    if first { second } else { false }
-}
-
-// The first of some elements that has the key of x; their number where none has.
-pub(crate) fn find_key(board: &mut [u16], cells: usize, holders: &[u16], x: usize) -> usize
-    requires { ⌜ Ready cells (now board) × (x < 128) × ((i : ℕ) → i < length (now holders) → getD (now holders) i 0 < 128) ⌝ }
-    ensures answer { λ r. ⌜ r ≡ firstAt (alikeOn cells (now (board .entry)) x) (now (holders .entry)) ⌝ }
-    ensures kept { λ _. ⌜ now (board .exit) ≡ now (board .entry) ⌝ }
-{
-    let mut i: usize = 0;
-    while i < holders.len() {
-        let y = holders[i] as usize;
-        if same_key(board, cells, x, y) {
-            return i;
-        }
-        i += 1;
+    let from = board[STARTS + x] as usize;
+    let end = end_of(board, cells, x);
+    let other_from = board[STARTS + y] as usize;
+    let other_end = end_of(board, cells, y);
+    if end - from != other_end - other_from {
+        return false;
     }
-    i
+    count_up(board, from, end);
+    if count_down(board, other_from, other_end) {
+        return true;
+    }
+    clear_counts(board, from, end);
+    false
 }

@@ -10,10 +10,10 @@ ghost use Rattle.stored.specs.Signature.{signature, sameSignature};
 ghost use Rattle.stored.specs.Reading.{Reads, modelOf};
 ghost use Rattle.rounds.specs.Round.{Sides};
 ghost use Rattle.rounds.specs.Round as rounds;
-ghost use Rattle.rounds.specs.Board.{boardRoom, countStart, otherStart, Empty, Board, Prepared};
+ghost use Rattle.rounds.specs.Board.{boardRoom, countStart, Empty, Board, Prepared};
 use crate::board::lay;
-use crate::board::link;
-use crate::group::group_side;
+use crate::board::list_cells;
+use crate::group::group_sides;
 use crate::numbers::number_cells;
 use stored::layout::Layout;
 
@@ -21,7 +21,7 @@ const COLOURS: usize = 20608;
 
 const OTHER_COLOURS: usize = 20672;
 
-// Lays both models out on a board with empty tables; answers how many cells there are.
+// Lays both models out on a board with an empty table of counts; answers how many cells there are.
 pub fn set_up(
     left: &[u8],
     in_left: Layout,
@@ -29,11 +29,11 @@ pub fn set_up(
     in_right: Layout,
     board: &mut [u16],
 ) -> usize
-    requires { ⌜ Reads (now left) «in_left» × Reads (now right) «in_right» × (sameSignature (signature (modelOf (now left))) (signature (modelOf (now right))) ≡ true) × (length (now board) ≡ boardRoom) × Empty countStart (now board) × Empty otherStart (now board) ⌝ }
+    requires { ⌜ Reads (now left) «in_left» × Reads (now right) «in_right» × (sameSignature (signature (modelOf (now left))) (signature (modelOf (now right))) ≡ true) × (length (now board) ≡ boardRoom) × Empty countStart (now board) ⌝ }
     ensures { λ r. ⌜ Board (modelOf (now (left .entry))) (modelOf (now (right .entry))) r (now (board .exit)) ⌝ }
 {
     let cells = lay(left, in_left, right, in_right, board);
-    link(board, cells);
+    list_cells(board, cells);
     cells
 }
 
@@ -65,14 +65,7 @@ fn prepare(
 {
     write_colours(left_colours, &mut board[COLOURS..]);
     write_colours(right_colours, &mut board[OTHER_COLOURS..]);
-    number_cells(left, in_left, right, in_right, board);
-}
-
-// Room for the holders of keys.
-fn no_holders() -> [u16; 128]
-    ensures { λ r. ⌜ length r ≡ 128 ⌝ }
-{
-    [0u16; 128]
+    number_cells(left, in_left, right, in_right, board, cells);
 }
 
 // Recolours both sides, each over the front of its output.
@@ -104,23 +97,12 @@ fn recolour(
     let end = start + in_left.size;
     let other_start = in_right.roots;
     let other_end = other_start + in_right.size;
-    let mut holders = no_holders();
-    let held = group_side(
+    group_sides(
         board,
         cells,
         &left[start..end],
-        0,
-        &mut holders,
-        0,
-        left_colours,
-    );
-    group_side(
-        board,
-        cells,
         &right[other_start..other_end],
-        64,
-        &mut holders,
-        held,
+        left_colours,
         right_colours,
     );
 }

@@ -1,17 +1,17 @@
 -- The board: colours and lines read from it, and what a write leaves of it. Assumes nothing.
 use Prim.Native.Nat.{ℕ, zero, suc, _+_, _-_, _<_, _≤_}
-use mathlib.Core.Path.{_≡_, refl, sym, _∙_, ap, ap₂}
+use mathlib.Core.Path.{_≡_, refl, sym, _∙_, ap}
 use mathlib.Core.List.{List, [], _∷_, _++_, append-assoc, append-nil}
 use native.Mathlib.Omega.{arith}
-use lib.ListN.{length, getD, take, drop, length-drop, length-append, take-append-drop, drop-of-length-le, List·getD-eq-default}
-use lib.Seq.{getD-drop, length-take-le, take-at, drop-at, take-append-le, take-take, drop-drop, getD-append-add}
+use lib.ListN.{length, getD, take, drop, length-drop, length-append, drop-of-length-le, List·getD-eq-default}
+use lib.Seq.{getD-drop, length-take-le, drop-at, take-append-le, take-take, drop-drop, getD-append-add}
 use Rattle.lists.specs.Part.{part, over}
 use Rattle.lists.proofs.Laws.Every.{getD-inside}
-use Rattle.lists.proofs.Laws.Part.{length-part, getD-part, part-rest, drop-take}
-use Rattle.lists.proofs.Laws.Over.{over-none, length-over, getD-over}
+use Rattle.lists.proofs.Laws.Part.{length-part, getD-part, part-rest}
+use Rattle.lists.proofs.Laws.Over.{length-over, getD-over}
 use Rattle.rounds.specs.Colours.{noColour, colourAt}
-use Rattle.rounds.specs.Board.{colourStart, lineOf, lineAt, overAt, flat}
-use Rattle.lists.proofs.Laws.Over.{over-append, over-split}
+use Rattle.rounds.specs.Board.{colourStart, lineOf, lineAt, overAt}
+use Rattle.lists.proofs.Laws.Over.{over-split}
 
 -- the colour of an element that has one on the board, and of one that has none
 pub colour-there : (w : List ℕ) (x : ℕ) → colourStart + x < length w → getD w (colourStart + x) 0 ≡ colourAt (drop colourStart w) x
@@ -37,11 +37,6 @@ module _ (w : List ℕ) (p arity : ℕ) (fits : p + arity ≤ length w) where
   pub line-entry : (j : ℕ) → j < arity → getD (lineAt w p arity) j 0 ≡ colourAt (drop colourStart w) (getD w (p + j) 0)
   line-entry j h =
       getD-line (drop colourStart w) (part w p arity) j 0 (omega (arith, length-part w p arity fits)) ∙ ap (colourAt (drop colourStart w)) (getD-part w p arity j 0 h)
-
--- rows one after the other
-pub flat-one : (x : List ℕ) → flat (x ∷ []) ≡ x
-unfolding flat
-flat-one x = append-nil x
 
 -- what a write from a place on leaves
 module _ (start : ℕ) (new old : List ℕ) (fits : start + length new ≤ length old) where
@@ -80,28 +75,11 @@ module _ (start : ℕ) (new old : List ℕ) (fits : start + length new ≤ lengt
       let e : start + length new + (n - (start + length new)) ≡ n = omega (arith, h) in
       rw e at (sym (drop-drop (n - (start + length new)) (start + length new) (overAt start new old)) ∙ ap (drop (n - (start + length new))) overAt-after ∙ drop-drop (n - (start + length new)) (start + length new) old)
 
-  pub overAt-more : (more : List ℕ) → overAt (start + length new) more (overAt start new old) ≡ overAt start (new ++ more) old
-  unfolding overAt
-  overAt-more more =
-      ap (overAt (start + length new) more) in-two
-      ∙ ap₂ (λ (t u : List ℕ). t ++ over more u) (take-at front rest (start + length new) front-is) (drop-at front rest (start + length new) front-is)
-      ∙ append-assoc (take start old) new (over more rest)
-      ∙ ap (λ (t : List ℕ). take start old ++ t) (sym (over-append new more (drop start old)))
-
   pub overAt-entry : (i : ℕ) → i < length new → getD (overAt start new old) (start + i) 0 ≡ getD new i 0
   unfolding overAt
   overAt-entry i h =
       let e : length (take start old) + i ≡ start + i = omega (arith, front-long) in
       rw e at (getD-append-add (take start old) (over new (drop start old)) i 0) ∙ getD-over new (drop start old) i 0 h
-
-  pub overAt-part : (p n : ℕ) → p + n ≤ start → part (overAt start new old) p n ≡ part old p n
-  overAt-part p n h =
-      let e : p + n - p ≡ n = omega arith in
-      rw e at (sym (drop-take p (p + n) (overAt start new old)) ∙ ap (drop p) (overAt-before (p + n) h) ∙ drop-take p (p + n) old)
-
-pub overAt-none : (start : ℕ) (old : List ℕ) → overAt start [] old ≡ old
-unfolding overAt
-overAt-none start old = ap (λ (t : List ℕ). take start old ++ t) (over-none (drop start old)) ∙ take-append-drop start old
 
 -- a part lent from a place on, written, and given back
 pub overAt-lent : (start k : ℕ) (new w back : List ℕ) → length w ≤ start + k → back ≡ over new (part w start (length w - start)) → take start w ++ (back ++ drop k (drop start w)) ≡ overAt start new w

@@ -1,194 +1,124 @@
--- Keys compared by counting: what is left of a board whose tables were used, and what the tables say. Assumes nothing.
+-- Keys compared by counting up and down: what is left of a board whose table was used, and what the counts say. Being alike is symmetric and transitive, and those alike have one mark and bucket. Assumes
+-- nothing.
 use Prim.Native.Nat.{ℕ, _+_, _-_, _<_, _≤_}
 use mathlib.Core.Path.{_≡_, refl, sym, _∙_, ap, ap₂}
 use mathlib.Core.Logic.{_⊎_, inl, inr, by-cases}
-use mathlib.Core.Bool.{Bool, true, false}
-use mathlib.Core.List.{List, [], _∷_, List·Memᴰ, List·Memᴰ·cases-cons, List·Memᴰ·not-nil, List·Memᴰ·head, List·Memᴰ·tail}
+use mathlib.Core.Bool.{true, false, false≢true}
+use mathlib.Core.List.{List, List·Memᴰ}
 use native.Mathlib.Omega.{arith}
-use native.Mathlib.Decide.{decLe}
-use borrow.Author.Tests.{eq-eqb, ne-eqb}
+use native.Mathlib.Decide.{decLe, ℕ-discrete}
+use borrow.Author.Tests.{eq-eqb, ne-eqb, eqb-true}
 use lib.Dec.{eqb}
-use lib.ListN.{length, getD, drop}
-use lib.Seq.{getD-take, length-take-le, ext-getD}
-use Rattle.lists.specs.Every.{all, howMany}
-use Rattle.lists.specs.First.{firstAt}
+use lib.ListN.{length, getD}
+use lib.Seq.{ext-getD}
+use Rattle.lists.specs.Every.{howMany}
 use Rattle.lists.proofs.Laws.Tests.{split}
 use Rattle.lists.proofs.Laws.Every.{mem-place}
-use Rattle.lists.proofs.Laws.Part.{length-part, getD-part}
+use Rattle.lists.proofs.Laws.Part.{getD-part}
+use Rattle.lists.proofs.Laws.Counting.{howMany-some}
 use Rattle.rounds.specs.Colours.{colourAt}
-use Rattle.rounds.specs.Board.{nextStart, numberStart, countStart, otherStart, headStart, picked, sameNumbers, cellsOn, numbersOn, coloursOn, placesOn, alikeOn, Linked, Small, Empty, Counts, OnlyTable, Ready}
-use Rattle.lists.proofs.Laws.Every.{all-append-yes, all-append-no, all-agree}
-use Rattle.rounds.proofs.Laws.Tables.{agreesAt}
+use Rattle.rounds.specs.Board.{numberStart, countStart, linkStart, startStart, sameNumbers, cellsOn, coloursOn, startOf, placesOn, segment, alikeOn, markOn, markBucket, bucketOn, Segment, Empty, Counts, OnlyTable, Ready}
+use Rattle.rounds.proofs.Laws.Bags.{counts-mark, counts-length, even-counts, numbers-counts, counts-numbers}
+use Rattle.rounds.proofs.Laws.Tables.{segment-long, segment-entries}
+use Rattle.rounds.proofs.Laws.Segments.{segment-of, segment-is}
 
--- two boards are the same but for the tables
-pub record Beside (w v : List ℕ) : Type 0 where
-  pub length-kept : length v ≡ length w
-  pub below : (i : ℕ) → i < countStart → getD v i 0 ≡ getD w i 0
-  pub above : (i : ℕ) → headStart ≤ i → getD v i 0 ≡ getD w i 0
-
-pub beside-one : (table : ℕ) (w v : List ℕ) → countStart ≤ table → table ≤ otherStart → OnlyTable table w v → Beside w v
-beside-one table w v low high o =
-    record { length-kept = o .length-kept; below = λ i h. o .below i (omega (arith, h, low)); above = λ i h. o .above i (omega (arith, h, high)) }
-
-pub beside-two : (u v w : List ℕ) → Beside u v → Beside v w → Beside u w
-beside-two u v w h k =
-    record { length-kept = k .length-kept ∙ h .length-kept; below = λ i l. k .below i l ∙ h .below i l; above = λ i l. k .above i l ∙ h .above i l }
-
-module _ (cells : ℕ) (w v : List ℕ) (l : Linked cells w) (s : Beside w v) where
-  pub cells-beside : cellsOn cells v ≡ cellsOn cells w
-  cells-beside =
-      ext-getD 0 (cellsOn cells v) (cellsOn cells w)
-      (length-take-le cells v (omega (arith, s .length-kept, l .room, l .few)) ∙ sym (length-take-le cells w (omega (arith, l .room, l .few))))
-      (λ i h. by-place i (omega (arith, h, length-take-le cells v (omega (arith, s .length-kept, l .room, l .few)))))
-    where
-      by-place : (i : ℕ) → i < cells → getD (cellsOn cells v) i 0 ≡ getD (cellsOn cells w) i 0
-      by-place i h = getD-take cells v i 0 h ∙ s .below i (omega (arith, h, l .few)) ∙ sym (getD-take cells w i 0 h)
-
-  pub numbers-beside : numbersOn cells v ≡ numbersOn cells w
-  numbers-beside =
-      ext-getD 0 (numbersOn cells v) (numbersOn cells w)
-      (long-v ∙ sym (length-part w numberStart cells (omega (arith, l .room, l .few))))
-      (λ i h. by-place i (omega (arith, h, long-v)))
-    where
-      long-v : length (numbersOn cells v) ≡ cells
-      long-v = length-part v numberStart cells (omega (arith, s .length-kept, l .room, l .few))
-
-      by-place : (i : ℕ) → i < cells → getD (numbersOn cells v) i 0 ≡ getD (numbersOn cells w) i 0
-      by-place i h = getD-part v numberStart cells i 0 h ∙ s .below (numberStart + i) (omega (arith, h, l .few)) ∙ sym (getD-part w numberStart cells i 0 h)
-
-  pub places-beside : (x : ℕ) → placesOn cells v x ≡ placesOn cells w x
-  places-beside x = ap₂ (picked x) cells-beside numbers-beside
-
-  pub linked-beside : Linked cells v
-  linked-beside = record {
-    room = s .length-kept ∙ l .room;
-    few = l .few;
-    known = λ c h. let e = s .below c (omega (arith, h, l .few)) in omega (arith, e, l .known c h);
-    next = λ c h.
-        s .below (nextStart + c) (omega (arith, h, l .few)) ∙ l .next c h
-        ∙ ap₂ (λ (x : ℕ) (es : List ℕ). c + 1 + firstAt (eqb x) (drop (c + 1) es)) (sym (s .below c (omega (arith, h, l .few)))) (sym cells-beside);
-    head = λ x h. s .above (headStart + x) (omega arith) ∙ l .head x h ∙ ap (firstAt (eqb x)) (sym cells-beside);
+-- a board whose table alone was changed
+module _ (w v : List ℕ) (o : OnlyTable countStart w v) where
+  pub only-segment : (from end : ℕ) → Segment from end w → Segment from end v
+  only-segment from end s = record {
+    room = o .length-kept ∙ s .room;
+    order = s .order;
+    few = s .few;
+    low = λ i h k. let e = o .below (numberStart + i) (omega (arith, k, s .few)) in omega (arith, e, s .low i h k);
   }
 
-  pub small-beside : Small cells w → Small cells v
-  small-beside h c k = let e = s .below (numberStart + c) (omega (arith, k, l .few)) in omega (arith, e, h c k)
+  pub only-numbers : (from end : ℕ) → Segment from end w → segment from end v ≡ segment from end w
+  only-numbers from end s =
+      ext-getD 0 (segment from end v) (segment from end w) (long-v ∙ sym (segment-long from end w s)) (λ i h. by-place i (omega (arith, h, long-v)))
+    where
+      long-v : length (segment from end v) ≡ end - from
+      long-v = segment-long from end v (only-segment from end s)
 
--- a number that stands for a place is the number of a cell
-picked-mem : (x n : ℕ) (cells numbers : List ℕ) → List·Memᴰ n (picked x cells numbers) → List·Memᴰ n numbers
-unfolding picked
-picked-mem x n [] numbers m = absurd (List·Memᴰ·not-nil m)
-picked-mem x n (y ∷ cells) [] m = absurd (List·Memᴰ·not-nil m)
-picked-mem x n (y ∷ cells) (k ∷ numbers) m = by-test (split (eqb x y)) m (picked-mem x n cells numbers)
+      by-place : (i : ℕ) → i < end - from → getD (segment from end v) i 0 ≡ getD (segment from end w) i 0
+      by-place i h =
+          getD-part v (numberStart + from) (end - from) i 0 h ∙ o .below (numberStart + from + i) (omega (arith, h, s .few)) ∙ sym (getD-part w (numberStart + from) (end - from) i 0 h)
+
+  -- with the table empty before and after nothing was changed
+  pub as-before : Empty countStart w → Empty countStart v → v ≡ w
+  as-before z y = ext-getD 0 v w (o .length-kept) (λ i _. by-cases (decLe countStart i) (λ l. by-cases (decLe linkStart i) (o .above i) (λ h. inside i l h)) (λ h. o .below i (omega (arith, h))))
+    where
+      inside : (i : ℕ) → countStart ≤ i → (linkStart ≤ i → ⊥) → getD v i 0 ≡ getD w i 0
+      inside i l h =
+          let e : countStart + (i - countStart) ≡ i = omega (arith, l) in
+          rw e at (y (i - countStart) (omega (arith, h, l)) ∙ sym (z (i - countStart) (omega (arith, h, l))))
+
+pub only-both : (u v w : List ℕ) → OnlyTable countStart u v → OnlyTable countStart v w → OnlyTable countStart u w
+only-both u v w h k = record { length-kept = k .length-kept ∙ h .length-kept; below = λ i l. k .below i l ∙ h .below i l; above = λ i l. k .above i l ∙ h .above i l }
+
+-- segments of different lengths don't have each number as often
+pub lengths-tell : (p q : List ℕ) → (length p ≡ length q → ⊥) → false ≡ sameNumbers p q
+lengths-tell p q d = go (split (sameNumbers p q))
   where
-    by-test : (eqb x y ≡ true) ⊎ (eqb x y ≡ false) → List·Memᴰ n (picked x (y ∷ cells) (k ∷ numbers)) → (List·Memᴰ n (picked x cells numbers) → List·Memᴰ n numbers) → List·Memᴰ n (k ∷ numbers)
-    by-test (inl e) m' ih = by-place (List·Memᴰ·cases-cons (rw (e, picked) at m'))
+    go : (sameNumbers p q ≡ true) ⊎ (sameNumbers p q ≡ false) → false ≡ sameNumbers p q
+    go (inl e) = absurd (d (counts-length p q (numbers-counts p q e)))
+    go (inr e) = sym e
+
+-- a board on which x's numbers were counted up
+module _ (w : List ℕ) (from end from' end' : ℕ) (s : Segment from end w) (s' : Segment from' end' w) (even : end - from ≡ end' - from') (empty : Empty countStart w)
+    (w₁ : List ℕ) (c₁ : Counts countStart (segment from end w) w₁) (o₁ : OnlyTable countStart w w₁) where
+  abbrev mine : List ℕ
+  mine = segment from end w
+
+  abbrev others : List ℕ
+  others = segment from' end' w
+
+  other-there : (n : ℕ) → howMany (eqb n) (segment from' end' w₁) ≡ howMany (eqb n) others
+  other-there n = ap (howMany (eqb n)) (only-numbers w w₁ o₁ from' end' s')
+
+  -- a number from 4096 on stands nowhere
+  none-large : (p : List ℕ) → ((i : ℕ) → i < length p → getD p i 0 < 4096) → (n : ℕ) → 4096 ≤ n → howMany (eqb n) p ≡ 0
+  none-large p h n l = by-cases (ℕ-discrete (howMany (eqb n) p) 0) (λ e. e) (λ d. absurd (some (howMany-some (eqb n) p (positive (howMany (eqb n) p) d))))
+    where
+      positive : (k : ℕ) → (k ≡ 0 → ⊥) → 0 < k
+      positive k d = by-cases (decLe k 0) (λ u. absurd (d (omega (arith, u)))) (λ u. omega (arith, u))
+
+      some : (x : ℕ) × List·Memᴰ x p × (eqb n x ≡ true) → ⊥
+      some r = let q = mem-place p (r .0) (r .1) in omega (arith, l, eqb-true n (r .0) (r .2), q .2, h (q .0) (q .1))
+
+  module _ (w₂ : List ℕ) (o₂ : OnlyTable countStart w₁ w₂) where
+    -- enough of each
+    module _ (t : (n : ℕ) → n < 4096 → getD w₂ (countStart + n) 0 + howMany (eqb n) (segment from' end' w₁) ≡ getD w₁ (countStart + n) 0) where
+      left-over : (n : ℕ) → n < 4096 → getD w₂ (countStart + n) 0 + howMany (eqb n) others ≡ howMany (eqb n) mine
+      left-over n h = omega (arith, t n h, other-there n, c₁ n h)
+
+      fits : (n : ℕ) → howMany (eqb n) others ≤ howMany (eqb n) mine
+      fits n = by-cases (decLe 4096 n) (λ l. omega (arith, none-large others (segment-entries from' end' w s') n l)) (λ l. omega (arith, left-over n (omega (arith, l))))
+
+      counts-even : (n : ℕ) → howMany (eqb n) others ≡ howMany (eqb n) mine
+      counts-even = even-counts others mine fits (segment-long from end w s ∙ even ∙ sym (segment-long from' end' w s'))
+
+      pub enough-same : true ≡ sameNumbers mine others
+      enough-same = sym (counts-numbers mine others (λ n. sym (counts-even n)))
+
+      pub enough-kept : w₂ ≡ w
+      enough-kept = as-before w w₂ (only-both w w₁ w₂ o₁ o₂) empty (λ n h. omega (arith, left-over n h, counts-even n))
+
+    -- too few of one
+    pub missing-differ : (n : ℕ) × (n < 4096) × (getD w₁ (countStart + n) 0 < howMany (eqb n) (segment from' end' w₁)) → false ≡ sameNumbers mine others
+    missing-differ m = go (split (sameNumbers mine others))
       where
-        by-place : (n ≡ k) ⊎ List·Memᴰ n (picked x cells numbers) → List·Memᴰ n (k ∷ numbers)
-        by-place (inl q) = List·Memᴰ·head q
-        by-place (inr q) = List·Memᴰ·tail (ih q)
-    by-test (inr e) m' ih = List·Memᴰ·tail (ih (rw (e, picked) at m'))
+        go : (sameNumbers mine others ≡ true) ⊎ (sameNumbers mine others ≡ false) → false ≡ sameNumbers mine others
+        go (inl e) = absurd (omega (arith, m .2, c₁ (m .0) (m .1), other-there (m .0), numbers-counts mine others e (m .0)))
+        go (inr e) = sym e
 
-pub places-small : (cells : ℕ) (w : List ℕ) → Linked cells w → Small cells w → (x n : ℕ) → List·Memᴰ n (placesOn cells w x) → n < 4096
-places-small cells w l s x n m =
-    let p = mem-place (numbersOn cells w) n (picked-mem x n (cellsOn cells w) (numbersOn cells w) m) in
-    let h : p .0 < cells = omega (arith, p .1, length-part w numberStart cells (omega (arith, l .room, l .few))) in
-    omega (arith, p .2, getD-part w numberStart cells (p .0) 0 h, s (p .0) h)
+    pub lowered-segment : Segment from end w₂
+    lowered-segment = only-segment w w₂ (only-both w w₁ w₂ o₁ o₂) from end s
 
--- both tables count
-pub record Both (w : List ℕ) (cells x y : ℕ) (v : List ℕ) : Type 0 where
-  pub linked : Linked cells w
-  pub small : Small cells w
-  pub beside : Beside w v
-  pub counts : Counts countStart (placesOn cells w x) v
-  pub others : Counts otherStart (placesOn cells w y) v
+    pub lowered-counts : ((n : ℕ) → n < 4096 → getD w₂ (countStart + n) 0 ≤ getD w₁ (countStart + n) 0) → (n : ℕ) → n < 4096 → howMany (eqb n) (segment from end w₂) ≡ 0 → getD w₂ (countStart + n) 0 ≡ 0
+    lowered-counts f n h z = omega (arith, f n h, c₁ n h, z, ap (howMany (eqb n)) (only-numbers w w₂ (only-both w w₁ w₂ o₁ o₂) from end s))
 
-module _ (w : List ℕ) (cells x y : ℕ) (r : Ready cells w) where
-  -- after x was counted
-  module _ (w₁ : List ℕ) (c₁ : Counts countStart (placesOn cells w x) w₁) (o₁ : OnlyTable countStart w w₁) where
-    beside₁ : Beside w w₁
-    beside₁ = beside-one countStart w w₁ (omega arith) (omega arith) o₁
-
-    pub counted-linked : Linked cells w₁
-    counted-linked = linked-beside cells w w₁ (r .linked) beside₁
-
-    pub counted-small : Small cells w₁
-    counted-small = small-beside cells w w₁ (r .linked) beside₁ (r .small)
-
-    pub counted-empty : Empty otherStart w₁
-    counted-empty n h = o₁ .above (otherStart + n) (omega arith) ∙ r .other-empty n h
-
-    -- after y was counted
-    module _ (w₂ : List ℕ) (c₂ : Counts otherStart (placesOn cells w₁ y) w₂) (o₂ : OnlyTable otherStart w₁ w₂) where
-      pub both-counted : Both w cells x y w₂
-      both-counted = record {
-        linked = r .linked;
-        small = r .small;
-        beside = beside-two w w₁ w₂ beside₁ (beside-one otherStart w₁ w₂ (omega arith) (omega arith) o₂);
-        counts = λ n h. o₂ .below (countStart + n) (omega (arith, h)) ∙ c₁ n h;
-        others = λ n h. c₂ n h ∙ ap (howMany (eqb n)) (places-beside cells w w₁ (r .linked) beside₁ y);
-      }
-
-module _ (w : List ℕ) (cells x y : ℕ) (v : List ℕ) (k : Both w cells x y v) where
-  pub both-linked : Linked cells v
-  both-linked = linked-beside cells w v (k .linked) (k .beside)
-
-  pub both-small : Small cells v
-  both-small = small-beside cells w v (k .linked) (k .beside) (k .small)
-
-  pub both-counts : Counts countStart (placesOn cells v x) v
-  both-counts n h = k .counts n h ∙ ap (howMany (eqb n)) (sym (places-beside cells w v (k .linked) (k .beside) x))
-
-  abbrev sameCountAt : ℕ → Bool
-  sameCountAt n = eqb (howMany (eqb n) (placesOn cells w x)) (howMany (eqb n) (placesOn cells w y))
-
-  -- what the tables say at the numbers of an element
-  told : (z : ℕ) → all (agreesAt v) (placesOn cells v z) ≡ all sameCountAt (placesOn cells w z)
-  told z =
-      ap (all (agreesAt v)) (places-beside cells w v (k .linked) (k .beside) z)
-      ∙ all-agree (agreesAt v) sameCountAt (placesOn cells w z)
-      (λ n m. let h = places-small cells w (k .linked) (k .small) z n m in ap₂ eqb (k .counts n h) (k .others n h))
-
-  module _ (first : Bool) (e : first ≡ all (agreesAt v) (placesOn cells v x)) where
-    pub first-fails : first ≡ false → false ≡ sameNumbers (placesOn cells w x) (placesOn cells w y)
-    unfolding sameNumbers
-    first-fails f = sym (all-append-no sameCountAt (placesOn cells w x) (placesOn cells w y) (sym (told x) ∙ sym e ∙ f))
-
-    pub second-tells : (second : Bool) → second ≡ all (agreesAt v) (placesOn cells v y) → first ≡ true → second ≡ sameNumbers (placesOn cells w x) (placesOn cells w y)
-    unfolding sameNumbers
-    second-tells second g f = g ∙ told y ∙ sym (all-append-yes sameCountAt (placesOn cells w x) (placesOn cells w y) (sym (told x) ∙ sym e ∙ f))
-
-  -- after x's table was emptied
-  module _ (w₃ : List ℕ) (z₃ : Empty countStart w₃) (o₃ : OnlyTable countStart v w₃) where
-    beside₃ : Beside w w₃
-    beside₃ = beside-two w v w₃ (k .beside) (beside-one countStart v w₃ (omega arith) (omega arith) o₃)
-
-    pub emptied-linked : Linked cells w₃
-    emptied-linked = linked-beside cells w w₃ (k .linked) beside₃
-
-    pub emptied-small : Small cells w₃
-    emptied-small = small-beside cells w w₃ (k .linked) beside₃ (k .small)
-
-    pub emptied-counts : Counts otherStart (placesOn cells w₃ y) w₃
-    emptied-counts n h = o₃ .above (otherStart + n) (omega arith) ∙ k .others n h ∙ ap (howMany (eqb n)) (sym (places-beside cells w w₃ (k .linked) beside₃ y))
-
-    -- after y's table was emptied, all is as before
-    pub as-before : Empty countStart w → Empty otherStart w → (w₄ : List ℕ) → Empty otherStart w₄ → OnlyTable otherStart w₃ w₄ → w₄ ≡ w
-    as-before z y₀ w₄ z₄ o₄ = ext-getD 0 w₄ w (beside₄ .length-kept) (λ i _. by-cases (decLe countStart i) (λ l. by-cases (decLe headStart i) (beside₄ .above i) (λ h. in-tables i l h)) (λ h. beside₄ .below i (omega (arith, h))))
-      where
-        beside₄ : Beside w w₄
-        beside₄ = beside-two w w₃ w₄ beside₃ (beside-one otherStart w₃ w₄ (omega arith) (omega arith) o₄)
-
-        at-place : (s i : ℕ) → s ≤ i → s + (i - s) ≡ i
-        at-place s i h = omega (arith, h)
-
-        in-tables : (i : ℕ) → countStart ≤ i → (headStart ≤ i → ⊥) → getD w₄ i 0 ≡ getD w i 0
-        in-tables i l h = by-cases (decLe otherStart i) second first
-          where
-            second : otherStart ≤ i → getD w₄ i 0 ≡ getD w i 0
-            second m = rw (at-place otherStart i m) at (z₄ (i - otherStart) (omega (arith, h, m)) ∙ sym (y₀ (i - otherStart) (omega (arith, h, m))))
-
-            first : (otherStart ≤ i → ⊥) → getD w₄ i 0 ≡ getD w i 0
-            first m = o₄ .below i (omega (arith, m)) ∙ rw (at-place countStart i l) at (z₃ (i - countStart) (omega (arith, m, l)) ∙ sym (z (i - countStart) (omega (arith, m, l))))
+    pub cleared-kept : (w₃ : List ℕ) → Empty countStart w₃ → OnlyTable countStart w₂ w₃ → w₃ ≡ w
+    cleared-kept w₃ z o₃ = as-before w w₃ (only-both w w₂ w₃ (only-both w w₁ w₂ o₁ o₂) o₃) empty z
 
 -- colours decide first
 module _ (cells : ℕ) (w : List ℕ) (x y own other : ℕ) (e : own ≡ colourAt (coloursOn w) x) (f : other ≡ colourAt (coloursOn w) y) where
@@ -199,3 +129,95 @@ module _ (cells : ℕ) (w : List ℕ) (x y own other : ℕ) (e : own ≡ colourA
   pub alike-counted : own ≡ other → sameNumbers (placesOn cells w x) (placesOn cells w y) ≡ alikeOn cells w x y
   unfolding alikeOn
   alike-counted q = rw (eq-eqb (colourAt (coloursOn w) x) (colourAt (coloursOn w) y) (sym e ∙ q ∙ f), alikeOn) refl
+
+-- alike exactly where the colours are and each number stands as often
+module _ (cells : ℕ) (w : List ℕ) (x y : ℕ) where
+  alike-colour : alikeOn cells w x y ≡ true → colourAt (coloursOn w) x ≡ colourAt (coloursOn w) y
+  unfolding alikeOn
+  alike-colour h = go (split (eqb (colourAt (coloursOn w) x) (colourAt (coloursOn w) y)))
+    where
+      go : (eqb (colourAt (coloursOn w) x) (colourAt (coloursOn w) y) ≡ true) ⊎ (eqb (colourAt (coloursOn w) x) (colourAt (coloursOn w) y) ≡ false) → colourAt (coloursOn w) x ≡ colourAt (coloursOn w) y
+      go (inl e) = eqb-true _ _ e
+      go (inr e) = absurd (false≢true (rw (e, alikeOn) at h))
+
+  alike-counts : alikeOn cells w x y ≡ true → (n : ℕ) → howMany (eqb n) (placesOn cells w x) ≡ howMany (eqb n) (placesOn cells w y)
+  alike-counts h = numbers-counts _ _ (alike-counted cells w x y _ _ refl refl (alike-colour h) ∙ h)
+
+  make-alike : colourAt (coloursOn w) x ≡ colourAt (coloursOn w) y → ((n : ℕ) → howMany (eqb n) (placesOn cells w x) ≡ howMany (eqb n) (placesOn cells w y)) → alikeOn cells w x y ≡ true
+  make-alike e h = sym (alike-counted cells w x y _ _ refl refl e) ∙ counts-numbers _ _ h
+
+  pub alike-mark : alikeOn cells w x y ≡ true → markOn cells w x ≡ markOn cells w y
+  alike-mark h = counts-mark _ _ (alike-counts h)
+
+  pub alike-bucket : alikeOn cells w x y ≡ true → bucketOn cells w x ≡ bucketOn cells w y
+  alike-bucket h = ap₂ markBucket (alike-mark h) (alike-colour h)
+
+  pub marks-tell : (markOn cells w x ≡ markOn cells w y → ⊥) → false ≡ alikeOn cells w x y
+  marks-tell d = go (split (alikeOn cells w x y))
+    where
+      go : (alikeOn cells w x y ≡ true) ⊎ (alikeOn cells w x y ≡ false) → false ≡ alikeOn cells w x y
+      go (inl e) = absurd (d (alike-mark e))
+      go (inr e) = sym e
+
+  pub buckets-tell : (bucketOn cells w x ≡ bucketOn cells w y → ⊥) → alikeOn cells w x y ≡ false
+  buckets-tell d = go (split (alikeOn cells w x y))
+    where
+      go : (alikeOn cells w x y ≡ true) ⊎ (alikeOn cells w x y ≡ false) → alikeOn cells w x y ≡ false
+      go (inl e) = absurd (d (alike-bucket e))
+      go (inr e) = e
+
+pub alike-sym : (cells : ℕ) (w : List ℕ) (x y : ℕ) → alikeOn cells w x y ≡ true → alikeOn cells w y x ≡ true
+alike-sym cells w x y h = make-alike cells w y x (sym (alike-colour cells w x y h)) (λ n. sym (alike-counts cells w x y h n))
+
+pub alike-trans : (cells : ℕ) (w : List ℕ) (x y z : ℕ) → alikeOn cells w x y ≡ true → alikeOn cells w y z ≡ true → alikeOn cells w x z ≡ true
+alike-trans cells w x y z h k =
+    make-alike cells w x z (alike-colour cells w x y h ∙ alike-colour cells w y z k) (λ n. alike-counts cells w x y h n ∙ alike-counts cells w y z k n)
+
+-- two elements of one colour, each with its segment
+pub record Pair (cells : ℕ) (w : List ℕ) (x y from end from' end' : ℕ) : Type 0 where
+  pub mine : Segment from end w
+  pub other : Segment from' end' w
+  pub empty : Empty countStart w
+  pub told : sameNumbers (segment from end w) (segment from' end' w) ≡ alikeOn cells w x y
+
+pub pair-of :
+    (cells : ℕ) (w : List ℕ) (x y from end from' end' own colour : ℕ) → Ready cells w → x < 128 → y < 128 → own ≡ colourAt (coloursOn w) x → colour ≡ colourAt (coloursOn w) y → own ≡ colour
+    → from ≡ getD w (startStart + x) 0 → end ≡ startOf (cellsOn cells w) x + howMany (eqb x) (cellsOn cells w)
+    → from' ≡ getD w (startStart + y) 0 → end' ≡ startOf (cellsOn cells w) y + howMany (eqb y) (cellsOn cells w)
+    → Pair cells w x y from end from' end'
+pair-of cells w x y from end from' end' own colour r h k e f g s t s' t' = record {
+  mine = segment-of cells w r x from end h s t;
+  other = segment-of cells w r y from' end' k s' t';
+  empty = r .empty;
+  told = ap₂ sameNumbers (segment-is cells w r x from end h s t) (segment-is cells w r y from' end' k s' t') ∙ alike-counted cells w x y own colour e f g;
+}
+
+module _ (cells : ℕ) (w : List ℕ) (x y from end from' end' : ℕ) (p : Pair cells w x y from end from' end') where
+  pub pair-uneven : (end - from ≡ end' - from' → ⊥) → false ≡ alikeOn cells w x y
+  pair-uneven d =
+      lengths-tell (segment from end w) (segment from' end' w) (λ e. d (sym (segment-long from end w (p .mine)) ∙ e ∙ segment-long from' end' w (p .other))) ∙ p .told
+
+  module _ (even : end - from ≡ end' - from') (w₁ : List ℕ) (c₁ : Counts countStart (segment from end w) w₁ × OnlyTable countStart w w₁) where
+    pub pair-other : Segment from' end' w₁
+    pair-other = only-segment w w₁ (c₁ .1) from' end' (p .other)
+
+    module _ (w₂ : List ℕ) (o₂ : OnlyTable countStart w₁ w₂) where
+      pub pair-enough :
+          ((n : ℕ) → n < 4096 → getD w₂ (countStart + n) 0 + howMany (eqb n) (segment from' end' w₁) ≡ getD w₁ (countStart + n) 0) → (true ≡ alikeOn cells w x y) × (w₂ ≡ w)
+      pair-enough t = (
+        enough-same w from end from' end' (p .mine) (p .other) even (p .empty) w₁ (c₁ .0) (c₁ .1) w₂ o₂ t ∙ p .told,
+        enough-kept w from end from' end' (p .mine) (p .other) even (p .empty) w₁ (c₁ .0) (c₁ .1) w₂ o₂ t,
+      )
+
+      pub pair-missing : (n : ℕ) × (n < 4096) × (getD w₁ (countStart + n) 0 < howMany (eqb n) (segment from' end' w₁)) → false ≡ alikeOn cells w x y
+      pair-missing m = missing-differ w from end from' end' (p .mine) (p .other) even (p .empty) w₁ (c₁ .0) (c₁ .1) w₂ o₂ m ∙ p .told
+
+      pub pair-mine : Segment from end w₂
+      pair-mine = lowered-segment w from end from' end' (p .mine) (p .other) even (p .empty) w₁ (c₁ .0) (c₁ .1) w₂ o₂
+
+      pub pair-counts :
+          ((n : ℕ) → n < 4096 → getD w₂ (countStart + n) 0 ≤ getD w₁ (countStart + n) 0) → (n : ℕ) → n < 4096 → howMany (eqb n) (segment from end w₂) ≡ 0 → getD w₂ (countStart + n) 0 ≡ 0
+      pair-counts = lowered-counts w from end from' end' (p .mine) (p .other) even (p .empty) w₁ (c₁ .0) (c₁ .1) w₂ o₂
+
+      pub pair-cleared : (w₃ : List ℕ) → Empty countStart w₃ × OnlyTable countStart w₂ w₃ → w₃ ≡ w
+      pair-cleared w₃ z = cleared-kept w from end from' end' (p .mine) (p .other) even (p .empty) w₁ (c₁ .0) (c₁ .1) w₂ o₂ w₃ (z .0) (z .1)

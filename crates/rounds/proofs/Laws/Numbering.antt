@@ -1,18 +1,20 @@
 -- Numbers of cells, relation by relation: what stands on the board after some relations were numbered. Assumes nothing.
 use Prim.Native.Nat.{ℕ, suc, _+_, _-_, _*_, _<_, _≤_}
 use mathlib.Core.Path.{_≡_, refl, sym, _∙_, ap, ap₂}
-use mathlib.Core.List.{List, [], _∷_, _++_, map, append-assoc, append-nil, List·Memᴰ·head, List·Memᴰ·tail}
+use mathlib.Core.Logic.{by-cases}
+use mathlib.Core.List.{List, [], _∷_, _++_, map, List·Memᴰ·head, List·Memᴰ·tail}
 use native.Mathlib.Omega.{arith}
 use native.Mathlib.Numerals.{add-one}
-use lib.ListN.{length, take, drop, length-append, length-map}
-use lib.Seq.{take-at, drop-at, take-take, drop-drop}
+use native.Mathlib.Decide.{decLe}
+use lib.ListN.{length, getD, take, drop, length-append, length-map, length-drop, List·getD-append}
+use lib.Seq.{take-at, drop-at, take-take, drop-drop, getD-drop}
 use Rattle.lists.specs.Part.{part, rowsOf}
 use Rattle.lists.proofs.Laws.Part.{drop-take, rowsOf-none, rowsOf-cons, rowsOf-take}
 use Rattle.stored.specs.Model.{Rel, Model, relationAt}
-use Rattle.rounds.specs.Board.{boardRoom, numberStart, colourStart, flat, raised, joinedAt, joinedFrom, cellsOf, cellsOn, coloursOn, lineOf, rowNumbers, relationNumbers, numbersFrom, rowNumbersAt, overAt}
-use Rattle.rounds.proofs.Laws.Board.{overAt-length, overAt-later, overAt-part, overAt-more, overAt-none}
+use Rattle.rounds.specs.Board.{numberStart, countStart, flat, raised, joinedAt, joinedFrom, cellsOf, cellsOn, coloursOn, lineOf, rowNumbers, relationNumbers, numbersFrom, rowNumbersAt, positionOf, Listed, NumbersAt, Renumbered, Empty}
 use Rattle.rounds.proofs.Laws.Cells.{length-flat}
-use Rattle.rounds.proofs.Laws.Numbers.{linesOn, long-numbers, lines-long}
+use Rattle.rounds.proofs.Laws.Listed.{cells-around, listed-around}
+use Rattle.rounds.proofs.Laws.Numbers.{colours-same, part-same, numbers-long}
 use Rattle.rounds.proofs.Laws.Places.{EvenRows, Even}
 
 -- rows of one length, one after the other, cut into rows again
@@ -46,55 +48,51 @@ unfolding joinedAt
 joined-count a b k =
     length-append (relationAt a k .rows) (map (map raised) (relationAt b k .rows)) ∙ ap (λ (n : ℕ). length (relationAt a k .rows) + n) (length-map (relationAt b k .rows) (map raised))
 
--- on a board with n cells the numbers `new` are to be written: those before `at` are, those of the relations `rest`, whose first cell is `at`, are not
-pub record Numbering (new : List ℕ) (n : ℕ) (rest : List Rel) (old w : List ℕ) (at : ℕ) : Type 0 where
-  pub room : length old ≡ boardRoom
-  pub few : n ≤ 4096
+-- on a board with so many cells the numbers `new` are to stand at the positions: those of the cells before `at` do, those of the relations `rest`, whose first cell is `at`, are left
+pub record Numbering (new : List ℕ) (cells : ℕ) (rest : List Rel) (old w : List ℕ) (at : ℕ) : Type 0 where
+  pub listed : Listed cells old
+  pub empty : Empty countStart old
   pub even : Even rest
-  pub ends : at + length (cellsOf rest) ≡ n
-  pub cells : drop at (cellsOn n old) ≡ cellsOf rest
-  pub written : List ℕ
-  pub written-long : length written ≡ at
-  pub so-far : w ≡ overAt numberStart written old
-  pub whole : written ++ numbersFrom at (coloursOn old) rest ≡ new
+  pub ends : at + length (cellsOf rest) ≡ cells
+  pub elements : drop at (cellsOn cells old) ≡ cellsOf rest
+  pub left : drop at new ≡ numbersFrom at (coloursOn old) rest
+  pub kept : Renumbered cells 0 old w
+  pub numbers : (n : ℕ) → n < at → getD w (numberStart + positionOf (cellsOn cells old) n) 0 ≡ getD new n 0
 
 pub numbering-none :
-    (rs : List Rel) (old : List ℕ) → length old ≡ boardRoom → Even rs → length (cellsOf rs) ≤ 4096 → cellsOn (length (cellsOf rs)) old ≡ cellsOf rs
-    → Numbering (numbersFrom 0 (coloursOn old) rs) (length (cellsOf rs)) rs old old 0
-numbering-none rs old room even few cells = record {
-  room = room;
-  few = few;
+    (cells : ℕ) (rs : List Rel) (old : List ℕ) → Listed cells old → Empty countStart old → Even rs → cells ≡ length (cellsOf rs) → cellsOn cells old ≡ cellsOf rs
+    → Numbering (numbersFrom 0 (coloursOn old) rs) cells rs old old 0
+numbering-none cells rs old listed empty even many laid = record {
+  listed = listed;
+  empty = empty;
   even = even;
-  ends = omega arith;
-  cells = cells;
-  written = [];
-  written-long = refl;
-  so-far = sym (overAt-none numberStart old);
-  whole = refl;
+  ends = omega (arith, many);
+  elements = laid;
+  left = refl;
+  kept = record { length-kept = refl; below = λ i h. refl; counts-kept = λ i h l. refl; above = λ i h. refl; numbers-kept = λ c h. refl };
+  numbers = λ n h. absurd (omega (arith, h));
 }
 
-module _ (new : List ℕ) (n : ℕ) (rest : List Rel) (old w : List ℕ) (at : ℕ) (i : Numbering new n rest old w at) where
-  fits : numberStart + length (i .written) ≤ length old
-  fits = omega (arith, i .written-long, i .ends, i .few, i .room)
+module _ (new : List ℕ) (cells : ℕ) (rest : List Rel) (old w : List ℕ) (at : ℕ) (i : Numbering new cells rest old w at) where
+  -- the cells are as they were, and their positions
+  pub same-cells : cellsOn cells w ≡ cellsOn cells old
+  same-cells = cells-around cells old w (i .listed) (i .kept .length-kept) (i .kept .below) (λ x h l. i .kept .above x h)
 
-  pub numbering-length : length w ≡ length old
-  numbering-length = ap length (i .so-far) ∙ overAt-length numberStart (i .written) old fits
+  pub still-listed : Listed cells w
+  still-listed = listed-around cells old w (i .listed) (i .kept .length-kept) (i .kept .below) (λ x h l. i .kept .above x h)
 
-  -- writing changes no colours and no cells
-  pub same-colours : coloursOn w ≡ coloursOn old
-  same-colours = ap (drop colourStart) (i .so-far) ∙ overAt-later numberStart (i .written) old fits colourStart (omega (arith, i .written-long, i .ends, i .few))
+  pub still-empty : Empty countStart w
+  still-empty n h = i .kept .counts-kept (countStart + n) (omega arith) (omega (arith, h)) ∙ i .empty n h
 
-  pub same-cells : (p len : ℕ) → p + len ≤ 4096 → part w p len ≡ part old p len
-  same-cells p len h = ap (λ (t : List ℕ). part t p len) (i .so-far) ∙ overAt-part numberStart (i .written) old fits p len (omega (arith, h))
-
-  pub numbering-all : rest ≡ [] → w ≡ overAt numberStart new old
-  unfolding numbersFrom
-  numbering-all e =
-      i .so-far
-      ∙ ap (λ (t : List ℕ). overAt numberStart t old) (sym (append-nil (i .written)) ∙ ap (λ (t : List Rel). i .written ++ numbersFrom at (coloursOn old) t) (sym e) ∙ i .whole)
+  pub numbering-all : rest ≡ [] → NumbersAt cells 0 new w
+  unfolding numbersFrom cellsOf
+  numbering-all e n h =
+      let z : drop at new ≡ [] = i .left ∙ ap (numbersFrom at (coloursOn old)) e in
+      let s : 0 + n ≡ n = omega arith in
+      ap₂ (λ (es : List ℕ) (c : ℕ). getD w (numberStart + positionOf es c) 0) same-cells s ∙ i .numbers n (omega (arith, h, length-drop at new, ap length z))
 
 -- the next relation
-module _ (new : List ℕ) (n : ℕ) (r : Rel) (rs : List Rel) (old w : List ℕ) (at : ℕ) (i : Numbering new n (r ∷ rs) old w at) where
+module _ (new : List ℕ) (cells : ℕ) (r : Rel) (rs : List Rel) (old w : List ℕ) (at : ℕ) (i : Numbering new cells (r ∷ rs) old w at) where
   abbrev width : ℕ
   width = length (r .columns)
 
@@ -107,52 +105,88 @@ module _ (new : List ℕ) (n : ℕ) (r : Rel) (rs : List Rel) (old w : List ℕ)
   long-here : length (flat (r .rows)) ≡ size
   long-here = length-flat width (r .rows) even-here
 
-  cells-here : drop at (cellsOn n old) ≡ flat (r .rows) ++ cellsOf rs
+  cells-here : drop at (cellsOn cells old) ≡ flat (r .rows) ++ cellsOf rs
   unfolding cellsOf
-  cells-here = i .cells
+  cells-here = i .elements
 
-  pub next-ends : at + size + length (cellsOf rs) ≡ n
+  next-ends : at + size + length (cellsOf rs) ≡ cells
   unfolding cellsOf
   next-ends = omega (arith, i .ends, length-append (flat (r .rows)) (cellsOf rs), long-here)
 
-  pub relation-fits : at + size ≤ 4096
-  relation-fits = omega (arith, next-ends, i .few)
+  pub relation-fits : at + size ≤ cells
+  relation-fits = omega (arith, next-ends)
 
   part-here : part old at size ≡ flat (r .rows)
   part-here =
-      sym (take-take size (n - at) (drop at old) (omega (arith, next-ends)))
-      ∙ ap (take size) (sym (drop-take at n old) ∙ cells-here)
+      sym (take-take size (cells - at) (drop at old) (omega (arith, next-ends)))
+      ∙ ap (take size) (sym (drop-take at cells old) ∙ cells-here)
       ∙ take-at (flat (r .rows)) (cellsOf rs) size long-here
 
   rows-here : rowsOf width (length (r .rows)) (drop at w) ≡ r .rows
   rows-here =
       sym (rowsOf-take width (length (r .rows)) (drop at w))
-      ∙ ap (rowsOf width (length (r .rows))) (same-cells new n (r ∷ rs) old w at i at size relation-fits ∙ part-here)
+      ∙ ap (rowsOf width (length (r .rows)))
+      (part-same old w (i .kept .length-kept) at size (omega (arith, relation-fits, i .listed .few)) (omega (arith, i .listed .room)) (λ x h. i .kept .below x (omega (arith, h))) ∙ part-here)
       ∙ rowsOf-flat width (r .rows) even-here
 
   numbers-here : rowNumbersAt at width (length (r .rows)) w ≡ relationNumbers at (coloursOn old) r
   unfolding rowNumbersAt relationNumbers
   numbers-here =
-      ap₂ (λ (colours : List ℕ) (rows : List (List ℕ)). flat (map (rowNumbers at width (map (lineOf colours) rows)) (map (lineOf colours) rows))) (same-colours new n (r ∷ rs) old w at i) rows-here
+      ap₂ (λ (colours : List ℕ) (rows : List (List ℕ)). flat (map (rowNumbers at width (map (lineOf colours) rows)) (map (lineOf colours) rows)))
+      (colours-same old w (i .kept .length-kept) (λ x h. i .kept .above x (omega (arith, h))))
+      rows-here
 
-  numbers-long : length (relationNumbers at (coloursOn old) r) ≡ size
-  unfolding rowNumbersAt
-  numbers-long = ap length (sym numbers-here) ∙ long-numbers w at width (length (r .rows)) (linesOn w at width (length (r .rows))) ∙ ap (λ (m : ℕ). m * width) (lines-long w at width (length (r .rows)))
+  long-numbers : length (relationNumbers at (coloursOn old) r) ≡ size
+  long-numbers = ap length (sym numbers-here) ∙ numbers-long at width (length (r .rows)) w
 
-  pub numbering-more : (out : List ℕ) → out ≡ overAt (numberStart + at) (rowNumbersAt at width (length (r .rows)) w) w → Numbering new n rs old out (at + size)
+  left-here : drop at new ≡ relationNumbers at (coloursOn old) r ++ numbersFrom (at + size) (coloursOn old) rs
   unfolding numbersFrom
-  numbering-more out e = record {
-    room = i .room;
-    few = i .few;
-    even = λ q m. i .even q (List·Memᴰ·tail m);
-    ends = next-ends;
-    cells = sym (drop-drop size at (cellsOn n old)) ∙ ap (drop size) cells-here ∙ drop-at (flat (r .rows)) (cellsOf rs) size long-here;
-    written = i .written ++ relationNumbers at (coloursOn old) r;
-    written-long = length-append (i .written) (relationNumbers at (coloursOn old) r) ∙ ap₂ (λ (p q : ℕ). p + q) (i .written-long) numbers-long;
-    so-far =
-        e
-        ∙ ap₂ (λ (t u : List ℕ). overAt (numberStart + at) t u) numbers-here (i .so-far)
-        ∙ ap (λ (m : ℕ). overAt (numberStart + m) (relationNumbers at (coloursOn old) r) (overAt numberStart (i .written) old)) (sym (i .written-long))
-        ∙ overAt-more numberStart (i .written) old (fits new n (r ∷ rs) old w at i) (relationNumbers at (coloursOn old) r);
-    whole = append-assoc (i .written) (relationNumbers at (coloursOn old) r) (numbersFrom (at + size) (coloursOn old) rs) ∙ i .whole;
-  }
+  left-here = i .left
+
+  new-here : (j : ℕ) → j < size → getD new (at + j) 0 ≡ getD (relationNumbers at (coloursOn old) r) j 0
+  new-here j h =
+      sym (getD-drop at new j 0) ∙ ap (λ (t : List ℕ). getD t j 0) left-here
+      ∙ List·getD-append (relationNumbers at (coloursOn old) r) (numbersFrom (at + size) (coloursOn old) rs) 0 j (omega (arith, h, long-numbers))
+
+  -- it is numbered
+  module _ (out : List ℕ) (there : NumbersAt cells at (rowNumbersAt at width (length (r .rows)) w) out) (k : Renumbered cells at w out) where
+    cells-out : cellsOn cells out ≡ cellsOn cells old
+    cells-out =
+        cells-around cells w out (still-listed new cells (r ∷ rs) old w at i) (k .length-kept) (k .below) (λ x h l. k .above x h) ∙ same-cells new cells (r ∷ rs) old w at i
+
+    numbers-out : (n : ℕ) → n < at + size → getD out (numberStart + positionOf (cellsOn cells old) n) 0 ≡ getD new n 0
+    numbers-out n h =
+        by-cases (decLe (suc n) at)
+        (λ l.
+        ap (λ (es : List ℕ). getD out (numberStart + positionOf es n) 0) (sym (same-cells new cells (r ∷ rs) old w at i))
+        ∙ k .numbers-kept n (omega (arith, l))
+        ∙ ap (λ (es : List ℕ). getD w (numberStart + positionOf es n) 0) (same-cells new cells (r ∷ rs) old w at i)
+        ∙ i .numbers n (omega (arith, l)))
+        (λ l.
+        let j = n - at in
+        let e : at + j ≡ n = omega (arith, l) in
+        let m : j < size = omega (arith, l, h) in
+        ap₂ (λ (es : List ℕ) (c : ℕ). getD out (numberStart + positionOf es c) 0) (sym cells-out) (sym e)
+        ∙ there j (omega (arith, m, numbers-long at width (length (r .rows)) w))
+        ∙ ap (λ (t : List ℕ). getD t j 0) numbers-here
+        ∙ sym (new-here j m)
+        ∙ ap (λ (c : ℕ). getD new c 0) e)
+
+    pub numbering-more : Numbering new cells rs old out (at + size)
+    numbering-more = record {
+      listed = i .listed;
+      empty = i .empty;
+      even = λ q m. i .even q (List·Memᴰ·tail m);
+      ends = next-ends;
+      elements = sym (drop-drop size at (cellsOn cells old)) ∙ ap (drop size) cells-here ∙ drop-at (flat (r .rows)) (cellsOf rs) size long-here;
+      left =
+          sym (drop-drop size at new) ∙ ap (drop size) left-here ∙ drop-at (relationNumbers at (coloursOn old) r) (numbersFrom (at + size) (coloursOn old) rs) size long-numbers;
+      kept = record {
+        length-kept = k .length-kept ∙ i .kept .length-kept;
+        below = λ x h. k .below x h ∙ i .kept .below x h;
+        counts-kept = λ x h l. k .counts-kept x h l ∙ i .kept .counts-kept x h l;
+        above = λ x h. k .above x h ∙ i .kept .above x h;
+        numbers-kept = λ c h. absurd (omega (arith, h));
+      };
+      numbers = numbers-out;
+    }

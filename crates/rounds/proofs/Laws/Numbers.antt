@@ -1,142 +1,276 @@
 -- Numbers of cells, row by row: what stands on the board after some rows of a relation were numbered. Assumes nothing.
-use Prim.Native.Nat.{ℕ, suc, _+_, _-_, _*_, _<_, _≤_}
-use mathlib.Core.Path.{_≡_, refl, sym, _∙_, ap, ap₂}
-use mathlib.Core.Bool.{Bool}
-use mathlib.Core.List.{List, [], _∷_, _++_, map, map-append}
+use Prim.Native.Nat.{ℕ, zero, suc, _+_, _-_, _*_, _<_, _≤_}
+use mathlib.Core.Path.{_≡_, refl, sym, _∙_, ap, ap₂, subst}
+use mathlib.Core.Logic.{by-cases}
+use mathlib.Core.List.{List, [], _∷_, _++_, map}
 use native.Mathlib.Omega.{arith}
-use native.Mathlib.Nat.{mul-le-mul-right}
+use native.Mathlib.Nat.{suc-mul}
 use native.Mathlib.Numerals.{add-one}
-use lib.ListN.{length, getD, take, drop, length-append, length-map, List·getD-map}
-use lib.Seq.{take-suc, take-all, drop-drop, length-take-le}
-use Rattle.lists.specs.First.{lowest, firstAt}
+use native.Mathlib.Decide.{decLe}
+use lib.ListN.{length, getD, drop, length-append, length-drop, List·getD-append}
+use lib.Seq.{getD-append-add, getD-drop, ext-getD}
+use Rattle.lists.specs.First.{firstAt}
 use Rattle.lists.specs.Numbers.{upFrom}
 use Rattle.lists.specs.Order.{sameRow}
-use Rattle.lists.specs.Part.{part, over, rowsOf}
-use Rattle.lists.proofs.Laws.First.{lowest-within}
-use Rattle.lists.proofs.Laws.Numbers.{length-upFrom}
-use Rattle.lists.proofs.Laws.Order.{same-row-refl}
-use Rattle.lists.proofs.Laws.Part.{rows-less, length-part, length-rowsOf, getD-rowsOf}
-use Rattle.rounds.specs.Board.{boardRoom, numberStart, colourStart, flat, lineOf, lineAt, rowNumbers, rowNumbersAt, overAt}
-use Rattle.lists.proofs.Laws.First.{lowest-agree, first-lowest}
-use Rattle.rounds.proofs.Laws.Cells.{flat-append}
-use Rattle.rounds.proofs.Laws.Board.{flat-one, overAt-length, overAt-later, overAt-part, overAt-more, overAt-none, overAt-lent}
+use Rattle.lists.specs.Part.{part, rowsOf}
+use Rattle.lists.proofs.Laws.Numbers.{length-upFrom, getD-upFrom}
+use Rattle.lists.proofs.Laws.Part.{length-part, getD-part, rowsOf-take}
+use Rattle.rounds.specs.Board.{boardRoom, numberStart, countStart, linkStart, startStart, colourStart, flat, lineOf, lineAt, linesOn, codeOf, bucketsFor, bucketOf, bucketAt, cellOf, Bucketed, keptLine, rowNumbers, rowNumbersAt, cellsOn, positionOf, Listed, NumbersAt, Scattered, Bucketing, Empty}
+use Rattle.rounds.proofs.Laws.Listed.{cells-around, listed-around, position-small}
+use Rattle.rounds.proofs.Laws.Buckets.{row-inside, lines-long, line-there, bucket-below, buckets-fit, firstOf, first-within, last-zero, last-unused, cell-none, Sought, kept-length, kept-below, kept-above, bucketed-more}
 
 pub one-more : (i arity : ℕ) → (i + 1) * arity ≡ i * arity + arity
-one-more i arity = let e : i + 1 - 1 ≡ i = omega arith in rw e at (rows-less (i + 1) arity (omega arith)) ∙ omega arith
+one-more i arity = ap (λ (n : ℕ). n * arity) (add-one i) ∙ omega (arith, suc-mul i arity)
 
--- of one relation, whose first cell is `base`, on a board
-module _ (w : List ℕ) (base arity rows : ℕ) where
-  abbrev pub linesOn : List (List ℕ)
-  linesOn = map (lineOf (drop colourStart w)) (rowsOf arity rows (drop base w))
+-- boards with the same colours, and those with the same cells and colours: the lines are the same
+module _ (w v : List ℕ) (long : length v ≡ length w) where
+  pub colours-same : ((i : ℕ) → colourStart ≤ i → getD v i 0 ≡ getD w i 0) → drop colourStart v ≡ drop colourStart w
+  colours-same h =
+      ext-getD 0 (drop colourStart v) (drop colourStart w) (length-drop colourStart v ∙ omega (arith, long, length-drop colourStart w))
+      (λ i l. getD-drop colourStart v i 0 ∙ h (colourStart + i) (omega arith) ∙ sym (getD-drop colourStart w i 0))
 
-  abbrev pub numbersOf : List ℕ → List ℕ
-  numbersOf line = rowNumbers base arity linesOn line
+  pub part-same : (p n : ℕ) → p + n ≤ 4096 → 4096 ≤ length w → ((i : ℕ) → i < 4096 → getD v i 0 ≡ getD w i 0) → part v p n ≡ part w p n
+  part-same p n h room below =
+      let a : length (part v p n) ≡ n = length-part v p n (omega (arith, h, room, long)) in
+      let b : length (part w p n) ≡ n = length-part w p n (omega (arith, h, room)) in
+      ext-getD 0 (part v p n) (part w p n) (a ∙ sym b)
+      (λ i l. let k : i < n = omega (arith, l, a) in getD-part v p n i 0 k ∙ below (p + i) (omega (arith, k, h)) ∙ sym (getD-part w p n i 0 k))
 
-  pub long-numbers : (lines : List (List ℕ)) → length (flat (map numbersOf lines)) ≡ length lines * arity
-  unfolding flat rowNumbers
-  long-numbers [] = omega arith
-  long-numbers (line ∷ lines) =
-      let e : suc (length lines) - 1 ≡ length lines = omega arith in
-      length-append (numbersOf line) (flat (map numbersOf lines)) ∙ ap₂ (λ (m n : ℕ). m + n) (length-upFrom _ arity) (long-numbers lines) ∙ sym (rw e at (rows-less (suc (length lines)) arity (omega arith)))
+  pub lines-same :
+      (base arity rows : ℕ) → base + rows * arity ≤ 4096 → 4096 ≤ length w → ((i : ℕ) → i < 4096 → getD v i 0 ≡ getD w i 0) → ((i : ℕ) → colourStart ≤ i → getD v i 0 ≡ getD w i 0)
+      → linesOn v base arity rows ≡ linesOn w base arity rows
+  lines-same base arity rows h room below above =
+      ap₂ (λ (colours : List ℕ) (rs : List (List ℕ)). map (lineOf colours) rs) (colours-same above)
+      (sym (rowsOf-take arity rows (drop base v)) ∙ ap (rowsOf arity rows) (part-same base (rows * arity) h room below) ∙ rowsOf-take arity rows (drop base w))
 
-  pub lines-long : length linesOn ≡ rows
-  lines-long = length-map (rowsOf arity rows (drop base w)) (lineOf (drop colourStart w)) ∙ length-rowsOf arity rows (drop base w)
+-- the numbers of a relation's cells
+module _ (base arity : ℕ) (every : List (List ℕ)) where
+  abbrev numbersOf : List (List ℕ) → List ℕ
+  numbersOf lines = flat (map (rowNumbers base arity every) lines)
 
-  pub line-there : (i : ℕ) → i < rows → getD linesOn i [] ≡ lineAt w (base + i * arity) arity
-  line-there i h =
-      List·getD-map (lineOf (drop colourStart w)) (rowsOf arity rows (drop base w)) i []
-      ∙ ap (lineOf (drop colourStart w)) (getD-rowsOf arity rows (drop base w) i [] h ∙ ap (take arity) (drop-drop (i * arity) base w))
+  row-long : (line : List ℕ) → length (rowNumbers base arity every line) ≡ arity
+  unfolding rowNumbers
+  row-long line = length-upFrom _ arity
 
-  -- the first i rows are numbered; row i starts at `at`
-  pub record NumberedTo (out : List ℕ) (at i : ℕ) : Type 0 where
-    pub room : length w ≡ boardRoom
-    pub few : base + rows * arity ≤ 4096
-    pub within : i ≤ rows
-    pub is-at : at ≡ base + i * arity
-    pub left : at + (rows - i) * arity ≡ base + rows * arity
-    pub so-far : out ≡ overAt (numberStart + base) (flat (map numbersOf (take i linesOn))) w
-
-  pub numbered-none : length w ≡ boardRoom → base + rows * arity ≤ 4096 → NumberedTo w base 0
+  numbers-many : (lines : List (List ℕ)) → length (numbersOf lines) ≡ length lines * arity
   unfolding flat
-  numbered-none h k =
-      let e : rows - 0 ≡ rows = omega arith in
-      record { room = h; few = k; within = omega arith; is-at = omega arith; left = rw e refl; so-far = sym (overAt-none (numberStart + base) w) }
+  numbers-many [] = omega arith
+  numbers-many (line ∷ lines) =
+      omega (arith, length-append (rowNumbers base arity every line) (numbersOf lines), row-long line, numbers-many lines, suc-mul (length lines) arity)
 
-  module _ (out : List ℕ) (at i : ℕ) (n : NumberedTo out at i) where
-    done-long : length (flat (map numbersOf (take i linesOn))) ≡ i * arity
-    done-long = long-numbers (take i linesOn) ∙ ap (λ (m : ℕ). m * arity) (length-take-le i linesOn (omega (arith, lines-long, n .within)))
+  row-entry : (line : List ℕ) (j : ℕ) → j < arity → getD (rowNumbers base arity every line) j 0 ≡ base + firstAt (sameRow line) every * arity + j
+  unfolding rowNumbers
+  row-entry line j h = getD-upFrom (base + firstAt (sameRow line) every * arity) arity j 0 h
 
-    fits : numberStart + base + length (flat (map numbersOf (take i linesOn))) ≤ length w
-    fits = omega (arith, done-long, n .few, n .left, n .is-at, n .room)
+  numbers-at : (lines : List (List ℕ)) (i j : ℕ) → i < length lines → j < arity → getD (numbersOf lines) (i * arity + j) 0 ≡ base + firstAt (sameRow (getD lines i [])) every * arity + j
+  unfolding flat
+  numbers-at [] i j h k = absurd (omega (arith, h))
+  numbers-at (line ∷ lines) zero j h k =
+      let e : 0 * arity + j ≡ j = omega arith in
+      ap (λ (n : ℕ). getD (rowNumbers base arity every line ++ numbersOf lines) n 0) e
+      ∙ List·getD-append (rowNumbers base arity every line) (numbersOf lines) 0 j (omega (arith, k, row-long line))
+      ∙ row-entry line j k
+  numbers-at (line ∷ lines) (suc i) j h k =
+      let e : suc i * arity + j ≡ length (rowNumbers base arity every line) + (i * arity + j) = omega (arith, suc-mul i arity, row-long line) in
+      ap (λ (n : ℕ). getD (rowNumbers base arity every line ++ numbersOf lines) n 0) e
+      ∙ getD-append-add (rowNumbers base arity every line) (numbersOf lines) (i * arity + j) 0
+      ∙ numbers-at lines i j (omega (arith, h)) k
 
-    pub numbered-length : length out ≡ length w
-    numbered-length = ap length (n .so-far) ∙ overAt-length (numberStart + base) _ w fits
+module _ (base arity rows : ℕ) (w : List ℕ) where
+  pub numbers-long : length (rowNumbersAt base arity rows w) ≡ rows * arity
+  unfolding rowNumbersAt
+  numbers-long = numbers-many base arity (linesOn w base arity rows) (linesOn w base arity rows) ∙ ap (λ (n : ℕ). n * arity) (lines-long w base arity rows)
 
-    pub numbered-all : rows ≤ i → out ≡ overAt (numberStart + base) (rowNumbersAt base arity rows w) w
-    unfolding rowNumbersAt
-    numbered-all h = n .so-far ∙ ap (λ (t : List (List ℕ)). overAt (numberStart + base) (flat (map numbersOf t)) w) (take-all i linesOn (omega (arith, lines-long)))
+  numbers-entry : (i j : ℕ) → i < rows → j < arity → getD (rowNumbersAt base arity rows w) (i * arity + j) 0 ≡ base + firstOf (linesOn w base arity rows) i * arity + j
+  unfolding rowNumbersAt
+  numbers-entry i j h k = numbers-at base arity (linesOn w base arity rows) (linesOn w base arity rows) i j (omega (arith, h, lines-long w base arity rows)) k
 
-    pub same-line-on : (p : ℕ) → p + arity ≤ 4096 → lineAt out p arity ≡ lineAt w p arity
-    same-line-on p h =
-        ap₂ lineOf
-        (ap (drop colourStart) (n .so-far) ∙ overAt-later (numberStart + base) _ w fits colourStart (omega (arith, done-long, n .few, n .left, n .is-at)))
-        (ap (λ (t : List ℕ). part t p arity) (n .so-far) ∙ overAt-part (numberStart + base) _ w fits p arity (omega (arith, h)))
+-- of one relation, whose first cell is `base`, on a board: the cells of the first i rows are numbered, and these rows stand in their buckets; row i starts at `at`
+pub record NumberedTo (cells base arity rows : ℕ) (old w : List ℕ) (at i : ℕ) : Type 0 where
+  pub listed : Listed cells old
+  pub fits : base + rows * arity ≤ cells
+  pub wide : 1 ≤ arity
+  pub empty : Empty countStart old
+  pub within : i ≤ rows
+  pub is-at : at ≡ base + i * arity
+  pub length-kept : length w ≡ length old
+  pub below : (n : ℕ) → n < numberStart → getD w n 0 ≡ getD old n 0
+  pub above : (n : ℕ) → startStart ≤ n → getD w n 0 ≡ getD old n 0
+  pub numbers-kept : (c : ℕ) → c < base → getD w (numberStart + positionOf (cellsOn cells old) c) 0 ≡ getD old (numberStart + positionOf (cellsOn cells old) c) 0
+  pub bucketed : Bucketed base arity rows (linesOn old base arity rows) w i
+  pub numbers : (n : ℕ) → n < i * arity → getD w (numberStart + positionOf (cellsOn cells old) (base + n)) 0 ≡ getD (rowNumbersAt base arity rows old) n 0
 
-    module _ (h : i < rows) where
-      split-off : (rows - i) * arity ≡ arity + (rows - (i + 1)) * arity
-      split-off = let e : rows - i - 1 ≡ rows - (i + 1) = omega arith in rw e at (rows-less (rows - i) arity (omega arith))
+pub numbered-none : (cells base arity rows : ℕ) (old : List ℕ) → Listed cells old → base + rows * arity ≤ cells → 1 ≤ arity → Empty countStart old → NumberedTo cells base arity rows old old base 0
+numbered-none cells base arity rows old l f wide e = record {
+  listed = l;
+  fits = f;
+  wide = wide;
+  empty = e;
+  within = omega arith;
+  is-at = omega arith;
+  length-kept = refl;
+  below = λ n h. refl;
+  above = λ n h. refl;
+  numbers-kept = λ c h. refl;
+  bucketed = record {
+    head = λ b h. e b h ∙ sym (ap (cellOf base arity) (last-zero rows (linesOn old base arity rows) b) ∙ cell-none base arity);
+    link = λ j h. absurd (omega (arith, h));
+  };
+  numbers = λ n h. absurd (omega (arith, h));
+}
 
-      pub row-fits : at + arity ≤ 4096
-      row-fits = omega (arith, n .few, n .left, split-off)
+module _ (cells base arity rows : ℕ) (old w : List ℕ) (at i : ℕ) (n : NumberedTo cells base arity rows old w at i) where
+  abbrev lines : List (List ℕ)
+  lines = linesOn old base arity rows
 
-      earlier : (j : ℕ) → j ≤ i → base + j * arity + arity ≤ 4096
-      earlier j k = omega (arith, row-fits, n .is-at, mul-le-mul-right {m = j} {n = i} arity k)
+  few : base + rows * arity ≤ 4096
+  few = omega (arith, n .fits, n .listed .few)
 
-      pub lines-fit : base + (i + 1) * arity ≤ length out
-      lines-fit = omega (arith, row-fits, n .is-at, one-more i arity, numbered-length, n .room)
+  same-lines : linesOn w base arity rows ≡ lines
+  same-lines =
+      lines-same old w (n .length-kept) base arity rows few (omega (arith, n .listed .room)) (λ x h. n .below x (omega (arith, h))) (λ x h. n .above x (omega (arith, h)))
 
-      pub numbers-fit : numberStart + at + arity ≤ length out
-      numbers-fit = omega (arith, row-fits, numbered-length, n .room)
+  same-cells : cellsOn cells w ≡ cellsOn cells old
+  same-cells = cells-around cells old w (n .listed) (n .length-kept) (n .below) (λ x a b. n .above x a)
 
-      pub part-fits : arity ≤ length (part out (numberStart + at) (length out - (numberStart + at)))
-      part-fits = omega (arith, numbers-fit, length-part out (numberStart + at) (length out - (numberStart + at)) (omega (arith, numbers-fit)))
+  pub numbered-all : rows ≤ i → NumbersAt cells base (rowNumbersAt base arity rows old) w
+  numbered-all h j l =
+      let e : i ≡ rows = omega (arith, h, n .within) in
+      let e' : i * arity ≡ rows * arity = ap (λ (m : ℕ). m * arity) e in
+      ap (λ (es : List ℕ). getD w (numberStart + positionOf es (base + j)) 0) same-cells ∙ n .numbers j (omega (arith, l, numbers-long base arity rows old, e'))
 
-      pub first-fits : (p : ℕ → Bool) (first : ℕ) → first ≡ base + lowest p 0 i * arity → first + arity ≤ 4096
-      first-fits p first e = omega (arith, e, earlier (lowest p 0 i) (omega (arith, lowest-within p 0 i .1)))
+  unused : (b : ℕ) → bucketsFor rows ≤ b → b < 4096 → getD w (countStart + b) 0 ≡ getD old (countStart + b) 0
+  unused b h l = n .bucketed .head b l ∙ ap (cellOf base arity) (last-unused rows lines b h i) ∙ cell-none base arity ∙ sym (n .empty b l)
 
-      first-is : (first : ℕ) → first ≡ base + lowest (λ (j : ℕ). sameRow (lineAt out (base + i * arity) arity) (lineAt out (base + j * arity) arity)) 0 i * arity
-          → first ≡ base + firstAt (sameRow (getD linesOn i [])) linesOn * arity
-      first-is first e = e ∙ ap (λ (m : ℕ). base + m * arity) (lowest-agree _ _ 0 i agree ∙ first-lowest (sameRow (getD linesOn i [])) linesOn [] i (omega (arith, lines-long)) (same-row-refl _))
-        where
-          agree : (j : ℕ) → 0 ≤ j → j < 0 + i → sameRow (lineAt out (base + i * arity) arity) (lineAt out (base + j * arity) arity) ≡ sameRow (getD linesOn i []) (getD linesOn j [])
-          agree j _ k =
-              ap₂ sameRow
-              (same-line-on (base + i * arity) (earlier i (omega arith)) ∙ sym (line-there i h))
-              (same-line-on (base + j * arity) (earlier j (omega (arith, k))) ∙ sym (line-there j (omega (arith, k))))
+  pub numbered-kept : Bucketing cells base (bucketsFor rows) old w
+  numbered-kept = record {
+    length-kept = n .length-kept;
+    below = n .below;
+    counts-kept =
+        λ x h l. let e : countStart + (x - countStart) ≡ x = omega (arith, h) in
+        rw e at (unused (x - countStart) (omega (arith, h)) (omega (arith, h, l)));
+    above = n .above;
+    numbers-kept = n .numbers-kept;
+  }
 
-      pub numbered-more :
-          (first start k : ℕ) (back : List ℕ)
-          → first ≡ base + lowest (λ (j : ℕ). sameRow (lineAt out (base + i * arity) arity) (lineAt out (base + j * arity) arity)) 0 i * arity
-          → start ≡ numberStart + at → k ≡ length out - start → back ≡ over (upFrom first arity) (part out start (length out - start))
-          → NumberedTo (take start out ++ (back ++ drop k (drop start out))) (at + arity) (i + 1)
-      unfolding rowNumbers
-      numbered-more first start k back e s l b = record {
-        room = n .room;
-        few = n .few;
-        within = omega arith;
-        is-at = omega (arith, n .is-at, one-more i arity);
-        left = omega (arith, n .left, split-off);
-        so-far =
-            overAt-lent start k (upFrom first arity) out back (omega (arith, l)) b
-            ∙ ap₂ (λ (m : ℕ) (t : List ℕ). overAt m (upFrom first arity) t) (s ∙ omega (arith, n .is-at, done-long)) (n .so-far)
-            ∙ overAt-more (numberStart + base) (flat (map numbersOf (take i linesOn))) w fits (upFrom first arity)
-            ∙ ap (λ (t : List ℕ). overAt (numberStart + base) t w) grown;
+  module _ (h : i < rows) where
+    pub row-room : at + arity ≤ cells
+    row-room = omega (arith, n .is-at, n .fits, row-inside i rows arity h)
+
+    pub line-room : at + arity ≤ length w
+    line-room = omega (arith, row-room, n .listed .few, n .listed .room, n .length-kept)
+
+    -- the bucket of the row
+    module _ (code b : ℕ) (is-code : code ≡ codeOf (lineAt w at arity)) (is-b : b ≡ bucketOf rows code) where
+      bucket-is : b ≡ bucketAt rows (linesOn w base arity rows) i
+      bucket-is =
+          is-b ∙ ap (bucketOf rows) is-code
+          ∙ ap (λ (line : List ℕ). bucketOf rows (codeOf line)) (ap (λ (p : ℕ). lineAt w p arity) (n .is-at) ∙ sym (line-there w base arity rows i h))
+
+      pub row-sought : Sought w base arity rows i at b
+      row-sought = record {
+        room = n .length-kept ∙ n .listed .room;
+        wide = n .wide;
+        fits = few;
+        within = h;
+        is-p = n .is-at;
+        is-b = bucket-is;
+        bucketed = subst (λ (ls : List (List ℕ)). Bucketed base arity rows ls w i) (sym same-lines) (n .bucketed);
       }
-        where
-          grown : flat (map numbersOf (take i linesOn)) ++ upFrom first arity ≡ flat (map numbersOf (take (i + 1) linesOn))
-          grown =
-              ap (λ (t : List ℕ). flat (map numbersOf (take i linesOn)) ++ t) (ap (λ (m : ℕ). upFrom m arity) (first-is first e) ∙ sym (flat-one (numbersOf (getD linesOn i []))))
-              ∙ sym (flat-append (map numbersOf (take i linesOn)) (numbersOf (getD linesOn i []) ∷ []))
-              ∙ ap flat (sym (map-append numbersOf (take i linesOn) (getD linesOn i [] ∷ [])))
-              ∙ ap (λ (t : List (List ℕ)). flat (map numbersOf t)) (sym (take-suc linesOn i [] (omega (arith, lines-long))))
-              ∙ ap (λ (m : ℕ). flat (map numbersOf (take m linesOn))) (sym (add-one i))
+
+      pub row-bucket : b < 4096
+      row-bucket = omega (arith, is-b, bucket-below rows code, buckets-fit rows 0)
+
+      pub row-low : at < 4096
+      row-low = omega (arith, row-room, n .listed .few, n .wide)
+
+      -- the first row with its colours
+      module _ (first : ℕ) (found : first ≡ base + firstOf (linesOn w base arity rows) i * arity) where
+        first-is : first ≡ base + firstOf lines i * arity
+        first-is = found ∙ ap (λ (ls : List (List ℕ)). base + firstOf ls i * arity) same-lines
+
+        pub first-small : first + arity ≤ 4096
+        first-small =
+            omega (arith, first-is, few, row-inside (firstOf lines i) rows arity (omega (arith, h, first-within lines i (omega (arith, h, lines-long old base arity rows)))))
+
+        -- it is put in its bucket
+        module _ (w₁ : List ℕ) (is₁ : w₁ ≡ keptLine at first b w) where
+          room-w : length w ≡ boardRoom
+          room-w = n .length-kept ∙ n .listed .room
+
+          pub long₁ : length w₁ ≡ length old
+          long₁ = ap length is₁ ∙ kept-length at first b w room-w row-low row-bucket ∙ n .length-kept
+
+          below₁ : (x : ℕ) → x < countStart → getD w₁ x 0 ≡ getD w x 0
+          below₁ x l = ap (λ (t : List ℕ). getD t x 0) is₁ ∙ kept-below at first b w room-w row-low row-bucket x l
+
+          above₁ : (x : ℕ) → startStart ≤ x → getD w₁ x 0 ≡ getD w x 0
+          above₁ x l = ap (λ (t : List ℕ). getD t x 0) is₁ ∙ kept-above at first b w room-w row-low row-bucket x l
+
+          cells₁ : cellsOn cells w₁ ≡ cellsOn cells old
+          cells₁ = cells-around cells old w₁ (n .listed) long₁ (λ x l. below₁ x (omega (arith, l)) ∙ n .below x l) (λ x l m. above₁ x l ∙ n .above x l)
+
+          pub listed₁ : Listed cells w₁
+          listed₁ = listed-around cells old w₁ (n .listed) long₁ (λ x l. below₁ x (omega (arith, l)) ∙ n .below x l) (λ x l m. above₁ x l ∙ n .above x l)
+
+          bucketed₁ : Bucketed base arity rows lines w₁ (i + 1)
+          bucketed₁ =
+              subst
+              (λ (t : List ℕ). Bucketed base arity rows lines t (i + 1))
+              (sym is₁)
+              (bucketed-more at first b w room-w row-low row-bucket base arity rows i lines (n .wide) (omega (arith, h, lines-long old base arity rows)) (n .is-at) first-is (rw same-lines at bucket-is) (n .bucketed))
+
+          -- its cells are numbered
+          module _ (w₂ : List ℕ) (written : NumbersAt cells at (upFrom first arity) w₂) (s : Scattered cells at w₁ w₂) where
+            cells₂ : cellsOn cells w₂ ≡ cellsOn cells old
+            cells₂ = cells-around cells w₁ w₂ listed₁ (s .length-kept) (s .below) (λ x l m. s .above x (omega (arith, l))) ∙ cells₁
+
+            -- a number of an earlier cell
+            earlier : (c : ℕ) → c < at → getD w₂ (numberStart + positionOf (cellsOn cells old) c) 0 ≡ getD w (numberStart + positionOf (cellsOn cells old) c) 0
+            earlier c l =
+                ap (λ (es : List ℕ). getD w₂ (numberStart + positionOf es c) 0) (sym cells₁) ∙ s .numbers-kept c l
+                ∙ ap (λ (es : List ℕ). getD w₁ (numberStart + positionOf es c) 0) cells₁
+                ∙ below₁ (numberStart + positionOf (cellsOn cells old) c) (omega (arith, position-small cells old (n .listed) c (omega (arith, l, row-room)), n .listed .few))
+
+            here : (j : ℕ) → j < arity → getD w₂ (numberStart + positionOf (cellsOn cells old) (at + j)) 0 ≡ first + j
+            here j l =
+                ap (λ (es : List ℕ). getD w₂ (numberStart + positionOf es (at + j)) 0) (sym cells₂)
+                ∙ written j (omega (arith, l, length-upFrom first arity))
+                ∙ getD-upFrom first arity j 0 l
+
+            numbers₂ : (m : ℕ) → m < (i + 1) * arity → getD w₂ (numberStart + positionOf (cellsOn cells old) (base + m)) 0 ≡ getD (rowNumbersAt base arity rows old) m 0
+            numbers₂ m l =
+                by-cases (decLe (suc m) (i * arity))
+                (λ k. earlier (base + m) (omega (arith, k, n .is-at)) ∙ n .numbers m (omega (arith, k)))
+                (λ k.
+                let j = m - i * arity in
+                let d : j < arity = omega (arith, k, l, next-row) in
+                let e : at + j ≡ base + m = omega (arith, k, n .is-at) in
+                let f : i * arity + j ≡ m = omega (arith, k) in
+                ap (λ (c : ℕ). getD w₂ (numberStart + positionOf (cellsOn cells old) c) 0) (sym e)
+                ∙ here j d
+                ∙ ap (λ (c : ℕ). c + j) first-is
+                ∙ sym (numbers-entry base arity rows old i j h d)
+                ∙ ap (λ (c : ℕ). getD (rowNumbersAt base arity rows old) c 0) f)
+              where
+                next-row : (i + 1) * arity ≡ i * arity + arity
+                next-row = one-more i arity
+
+            pub numbered-more : NumberedTo cells base arity rows old w₂ (at + arity) (i + 1)
+            numbered-more = record {
+              listed = n .listed;
+              fits = n .fits;
+              wide = n .wide;
+              empty = n .empty;
+              within = omega (arith, h);
+              is-at = omega (arith, n .is-at, one-more i arity);
+              length-kept = s .length-kept ∙ long₁;
+              below = λ x l. s .below x l ∙ below₁ x (omega (arith, l)) ∙ n .below x l;
+              above = λ x l. s .above x (omega (arith, l)) ∙ above₁ x l ∙ n .above x l;
+              numbers-kept = λ c l. earlier c (omega (arith, l, n .is-at)) ∙ n .numbers-kept c l;
+              bucketed = record {
+                head = λ c l. s .above (countStart + c) (omega arith) ∙ bucketed₁ .head c l;
+                link = λ j l f. s .above (linkStart + (base + j * arity)) (omega arith) ∙ bucketed₁ .link j l f;
+              };
+              numbers = numbers₂;
+            }

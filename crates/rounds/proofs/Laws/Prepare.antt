@@ -1,27 +1,27 @@
--- A board set up for two models, and prepared for a round: what a write leaves entry by entry, a board that is the same but for the numbers and the colours, and
--- the colours and the numbers that are written. Assumes nothing.
+-- A board set up for two models, and prepared for a round: what a write leaves entry by entry, a board that is the same but for the numbers, the links and the
+-- colours, and the colours and the numbers that are written. Assumes nothing.
 use Prim.Native.Nat.{ℕ, _+_, _-_, _<_, _≤_}
 use mathlib.Core.Path.{_≡_, sym, _∙_, ap, ap₂}
 use mathlib.Core.Bool.{true}
 use mathlib.Core.List.{List, _++_}
 use native.Mathlib.Omega.{arith}
-use lib.Dec.{eqb}
 use lib.ListN.{length, getD, take, drop}
-use lib.Seq.{getD-take, getD-drop, getD-append-add, length-take-le, ext-getD}
-use Rattle.lists.specs.First.{firstAt}
+use lib.Seq.{getD-take, getD-drop, getD-append-add}
 use Rattle.lists.specs.Part.{part, over}
 use Rattle.lists.proofs.Laws.Every.{getD-inside}
 use Rattle.lists.proofs.Laws.Over.{over-split, over-front, length-over, getD-over}
-use Rattle.lists.proofs.Laws.Part.{length-part, getD-part}
+use Rattle.lists.proofs.Laws.Part.{length-part}
 use Rattle.stored.specs.Model.{Model, size}
 use Rattle.stored.specs.Signature.{signature, sameSignature}
 use Rattle.stored.proofs.Laws.WellFormed.{WellFormed}
 use Rattle.rounds.specs.Colours.{noColour, colourAt}
-use Rattle.rounds.specs.Board.{boardRoom, nextStart, numberStart, countStart, otherStart, headStart, colourStart, raised, joined, cellsOf, numbersFrom, overAt, cellsOn, numbersOn, coloursOn, Linked, Relinked, Empty, Board, Prepared}
+use Rattle.rounds.specs.Board.{boardRoom, numberStart, countStart, linkStart, startStart, colourStart, raised, joined, cellsOf, numbersFrom, overAt, picked, cellsOn, coloursOn, Elements, Listed, Relisted, NumbersAt, Renumbered, Empty, Board, Prepared}
 use Rattle.rounds.proofs.Laws.Board.{colour-there, overAt-length, overAt-before, overAt-later, overAt-entry, overAt-lent}
 use Rattle.rounds.proofs.Laws.Cells.{cells-few, cells-known}
 use Rattle.rounds.proofs.Laws.Joined.{joined-even}
+use Rattle.rounds.proofs.Laws.Listed.{same-cells, cells-around, listed-around, listed-places}
 use Rattle.rounds.proofs.Laws.Numbered.{numbers-length}
+use Rattle.rounds.proofs.Laws.Numbers.{colours-same}
 
 -- an entry behind what was written over the front
 beyond : (xs old : List ℕ) (i : ℕ) → length xs ≤ i → getD (over xs old) i 0 ≡ getD old i 0
@@ -55,40 +55,19 @@ module _ (start : ℕ) (new old out : List ℕ) (fits : start + length new ≤ l
 pub rest-lent : (start : ℕ) (new w back : List ℕ) → back ≡ over new (part w start (length w - start)) → take start w ++ (back ++ drop (length w - start) (drop start w)) ≡ overAt start new w
 rest-lent start new w back e = overAt-lent start (length w - start) new w back (omega arith) e
 
--- two boards are the same but for the numbers and the colours
+-- two boards are the same but for the numbers, the links and the colours
 pub record Around (w v : List ℕ) : Type 0 where
   pub length-kept : length v ≡ length w
   pub below : (i : ℕ) → i < numberStart → getD v i 0 ≡ getD w i 0
-  pub between : (i : ℕ) → countStart ≤ i → i < colourStart → getD v i 0 ≡ getD w i 0
-
-module _ (cells : ℕ) (w v : List ℕ) (l : Linked cells w) (s : Around w v) where
-  cells-around : cellsOn cells v ≡ cellsOn cells w
-  cells-around = ext-getD 0 (cellsOn cells v) (cellsOn cells w) (long-v ∙ sym (length-take-le cells w (omega (arith, l .room, l .few)))) (λ i h. by-place i (omega (arith, h, long-v)))
-    where
-      long-v : length (cellsOn cells v) ≡ cells
-      long-v = length-take-le cells v (omega (arith, s .length-kept, l .room, l .few))
-
-      by-place : (i : ℕ) → i < cells → getD (cellsOn cells v) i 0 ≡ getD (cellsOn cells w) i 0
-      by-place i h = getD-take cells v i 0 h ∙ s .below i (omega (arith, h, l .few)) ∙ sym (getD-take cells w i 0 h)
-
-  linked-around : Linked cells v
-  linked-around = record {
-    room = s .length-kept ∙ l .room;
-    few = l .few;
-    known = λ c h. let e = s .below c (omega (arith, h, l .few)) in omega (arith, e, l .known c h);
-    next = λ c h.
-        s .below (nextStart + c) (omega (arith, h, l .few)) ∙ l .next c h
-        ∙ ap₂ (λ (x : ℕ) (es : List ℕ). c + 1 + firstAt (eqb x) (drop (c + 1) es)) (sym (s .below c (omega (arith, h, l .few)))) (sym cells-around);
-    head = λ x h. s .between (headStart + x) (omega arith) (omega (arith, h)) ∙ l .head x h ∙ ap (firstAt (eqb x)) (sym cells-around);
-  }
+  pub counts : (i : ℕ) → countStart ≤ i → i < linkStart → getD v i 0 ≡ getD w i 0
+  pub starts : (i : ℕ) → startStart ≤ i → i < colourStart → getD v i 0 ≡ getD w i 0
 
 pub board-around : (a b : Model) (cells : ℕ) (w v : List ℕ) → Board a b cells w → Around w v → Board a b cells v
 board-around a b cells w v h s = record {
-  laid = cells-around cells w v (h .linked) s ∙ h .laid;
+  laid = cells-around cells w v (h .listed) (s .length-kept) (s .below) (s .starts) ∙ h .laid;
   as-many = h .as-many;
-  linked = linked-around cells w v (h .linked) s;
-  empty = λ n l. s .between (countStart + n) (omega arith) (omega (arith, l)) ∙ h .empty n l;
-  other-empty = λ n l. s .between (otherStart + n) (omega arith) (omega (arith, l)) ∙ h .other-empty n l;
+  listed = listed-around cells w v (h .listed) (s .length-kept) (s .below) (s .starts);
+  empty = λ n l. s .counts (countStart + n) (omega arith) (omega (arith, l)) ∙ h .empty n l;
 }
 
 -- a board between rounds, and the colours of both sides
@@ -103,7 +82,7 @@ pub record Given (a b : Model) (cells : ℕ) (w left right : List ℕ) : Type 0 
 -- the colours of the left, then those of the right, then the numbers, are written
 module _ (a b : Model) (cells : ℕ) (w left right : List ℕ) (g : Given a b cells w left right) where
   long : length w ≡ 20736
-  long = g .board .linked .room
+  long = g .board .listed .room
 
   left-few : length left ≤ 64
   left-few = omega (arith, g .many, g .formed .few-elements)
@@ -135,13 +114,10 @@ module _ (a b : Model) (cells : ℕ) (w left right : List ℕ) (g : Given a b ce
       kept₂ i h = out-below 20672 right w₁ w₂ right-inside is₂ i (omega (arith, h)) ∙ out-below 20608 left w w₁ left-inside is₁ i h
 
       around₂ : Around w w₂
-      around₂ = record { length-kept = long₂ ∙ sym long; below = λ i h. kept₂ i (omega (arith, h)); between = λ i l h. kept₂ i h }
+      around₂ = record { length-kept = long₂ ∙ sym long; below = λ i h. kept₂ i (omega (arith, h)); counts = λ i l h. kept₂ i (omega (arith, h)); starts = λ i l h. kept₂ i h }
 
       pub coloured : Board a b cells w₂
       coloured = board-around a b cells w w₂ (g .board) around₂
-
-      pub still-laid : cellsOn (length (cellsOf (joined a b))) w₂ ≡ cellsOf (joined a b)
-      still-laid = ap (λ (n : ℕ). cellsOn n w₂) (sym (g .board .as-many)) ∙ coloured .laid
 
       abbrev numbers : List ℕ
       numbers = numbersFrom 0 (coloursOn w₂) (joined a b)
@@ -149,21 +125,21 @@ module _ (a b : Model) (cells : ℕ) (w left right : List ℕ) (g : Given a b ce
       numbers-many : length numbers ≡ cells
       numbers-many = numbers-length (coloursOn w₂) (joined a b) (joined-even a b (g .formed) (g .right-formed) (g .one)) 0 ∙ sym (g .board .as-many)
 
-      module _ (w₃ : List ℕ) (is₃ : w₃ ≡ overAt numberStart numbers w₂) where
-        numbers-inside : numberStart + length numbers ≤ length w₂
-        numbers-inside = omega (arith, numbers-many, g .board .linked .few, long₂)
-
-        pub long₃ : length w₃ ≡ 20736
-        long₃ = out-long numberStart numbers w₂ w₃ numbers-inside is₃ ∙ long₂
-
+      module _ (w₃ : List ℕ) (there : NumbersAt cells 0 numbers w₃) (k : Renumbered cells 0 w₂ w₃) where
         pub same-long : length w₃ ≡ length w
-        same-long = long₃ ∙ sym long
-
-        kept₃ : (i : ℕ) → countStart ≤ i → getD w₃ i 0 ≡ getD w₂ i 0
-        kept₃ i h = out-above numberStart numbers w₂ w₃ numbers-inside is₃ i (omega (arith, h, numbers-many, g .board .linked .few))
+        same-long = k .length-kept ∙ long₂ ∙ sym long
 
         around₃ : Around w₂ w₃
-        around₃ = record { length-kept = long₃ ∙ sym long₂; below = out-below numberStart numbers w₂ w₃ numbers-inside is₃; between = λ i l h. kept₃ i l }
+        around₃ = record { length-kept = k .length-kept; below = k .below; counts = k .counts-kept; starts = λ i l h. k .above i l }
+
+        kept₃ : (i : ℕ) → colourStart ≤ i → getD w₃ i 0 ≡ getD w₂ i 0
+        kept₃ i h = k .above i (omega (arith, h))
+
+        long₃ : length w₃ ≡ 20736
+        long₃ = k .length-kept ∙ long₂
+
+        board₃ : Board a b cells w₃
+        board₃ = board-around a b cells w₂ w₃ coloured around₃
 
         left-there : (x : ℕ) → x < size a → colourAt (coloursOn w₃) x ≡ colourAt left x
         left-there x h =
@@ -183,39 +159,33 @@ module _ (a b : Model) (cells : ℕ) (w left right : List ℕ) (g : Given a b ce
             ∙ out-entry 20672 right w₁ w₂ right-inside is₂ y (omega (arith, h, g .right-many))
             ∙ getD-inside right y 0 noColour (omega (arith, h, g .right-many))
 
-        same-colours : coloursOn w₃ ≡ coloursOn w₂
-        same-colours = ap (drop colourStart) is₃ ∙ overAt-later numberStart numbers w₂ numbers-inside colourStart (omega (arith, numbers-many, g .board .linked .few))
-
-        numbers-there : numbersOn cells w₃ ≡ numbers
-        numbers-there = ext-getD 0 (numbersOn cells w₃) numbers (part-many ∙ sym numbers-many) (λ i h. by-place i (omega (arith, h, part-many)))
-          where
-            part-many : length (numbersOn cells w₃) ≡ cells
-            part-many = length-part w₃ numberStart cells (omega (arith, long₃, g .board .linked .few))
-
-            by-place : (i : ℕ) → i < cells → getD (numbersOn cells w₃) i 0 ≡ getD numbers i 0
-            by-place i h = getD-part w₃ numberStart cells i 0 h ∙ out-entry numberStart numbers w₂ w₃ numbers-inside is₃ i (omega (arith, h, numbers-many))
+        places-there : (x : ℕ) → picked x (cellsOn cells w₃) numbers ≡ picked x (cellsOf (joined a b)) (numbersFrom 0 (coloursOn w₃) (joined a b))
+        places-there x = ap₂ (λ (es colours : List ℕ). picked x es (numbersFrom 0 colours (joined a b))) (board₃ .laid) (sym (colours-same w₂ w₃ (k .length-kept) kept₃))
 
         pub prepared : Prepared a b cells left right w₃
         prepared = record {
-          board = board-around a b cells w₂ w₃ coloured around₃;
+          board = board₃;
           left-there = left-there;
           right-there = right-there;
-          numbered = numbers-there ∙ ap (λ (colours : List ℕ). numbersFrom 0 colours (joined a b)) (sym same-colours);
+          numbered = λ x. listed-places cells w₃ numbers (board₃ .listed) numbers-many there x ∙ places-there x;
         }
 
--- the cells are laid over the front of a board, and linked
+-- the cells are laid over the front of a board, and listed
 module _ (a b : Model) (va : WellFormed a) (vb : WellFormed b) (cells : ℕ) (old w : List ℕ) (many : cells ≡ length (cellsOf (joined a b))) (room : length old ≡ boardRoom) (is : w ≡ over (cellsOf (joined a b)) old) where
-  pub few-laid : cells ≤ 4096
+  few-laid : cells ≤ 4096
   few-laid = omega (arith, many, cells-few a b va vb)
 
-  pub room-laid : length w ≡ boardRoom
+  room-laid : length w ≡ boardRoom
   room-laid = ap length is ∙ length-over (cellsOf (joined a b)) old (omega (arith, few-laid, many, room)) ∙ room
 
-  pub known-laid : (c : ℕ) → c < cells → getD w c 0 < 128
+  known-laid : (c : ℕ) → c < cells → getD w c 0 < 128
   known-laid c h =
       let i : c < length (cellsOf (joined a b)) = omega (arith, h, many) in
       let e = ap (λ (l : List ℕ). getD l c 0) is ∙ getD-over (cellsOf (joined a b)) old c 0 i in
       omega (arith, e, cells-known a b va vb c i)
+
+  pub elements-laid : Elements cells w
+  elements-laid = record { room = room-laid; few = few-laid; known = known-laid }
 
   cells-laid : cellsOn cells w ≡ cellsOf (joined a b)
   cells-laid = ap₂ (λ (n : ℕ) (l : List ℕ). take n l) many is ∙ over-front (cellsOf (joined a b)) old
@@ -223,20 +193,10 @@ module _ (a b : Model) (va : WellFormed a) (vb : WellFormed b) (cells : ℕ) (ol
   beyond-laid : (i : ℕ) → 4096 ≤ i → getD w i 0 ≡ getD old i 0
   beyond-laid i h = ap (λ (l : List ℕ). getD l i 0) is ∙ beyond (cellsOf (joined a b)) old i (omega (arith, h, many, few-laid))
 
-  pub board-laid : (v : List ℕ) → Linked cells v → Relinked w v → Empty countStart old → Empty otherStart old → Board a b cells v
-  board-laid v l r e o = record {
-    laid = same-cells ∙ cells-laid;
+  pub board-laid : (v : List ℕ) → Listed cells v → Relisted w v → Empty countStart old → Board a b cells v
+  board-laid v l r e = record {
+    laid = same-cells cells w v (sym (r .length-kept)) (omega (arith, room-laid, few-laid)) (λ c h. r .cells-kept c (omega (arith, h, few-laid))) ∙ cells-laid;
     as-many = many;
-    linked = l;
+    listed = l;
     empty = λ n h. r .counts-kept (countStart + n) (omega arith) (omega (arith, h)) ∙ beyond-laid (countStart + n) (omega arith) ∙ e n h;
-    other-empty = λ n h. r .counts-kept (otherStart + n) (omega arith) (omega (arith, h)) ∙ beyond-laid (otherStart + n) (omega arith) ∙ o n h;
   }
-    where
-      long-v : length (cellsOn cells v) ≡ cells
-      long-v = length-take-le cells v (omega (arith, l .room, l .few))
-
-      by-place : (i : ℕ) → i < cells → getD (cellsOn cells v) i 0 ≡ getD (cellsOn cells w) i 0
-      by-place i h = getD-take cells v i 0 h ∙ r .cells-kept i (omega (arith, h, l .few)) ∙ sym (getD-take cells w i 0 h)
-
-      same-cells : cellsOn cells v ≡ cellsOn cells w
-      same-cells = ext-getD 0 (cellsOn cells v) (cellsOn cells w) (long-v ∙ sym (length-take-le cells w (omega (arith, room-laid, l .few)))) (λ i h. by-place i (omega (arith, h, long-v)))

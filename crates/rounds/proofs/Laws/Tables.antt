@@ -1,219 +1,217 @@
--- Tables of counts: what is known before each turn of the loops that count an element's numbers, compare them, and empty the table again. Assumes nothing.
-use Prim.Native.Nat.{ℕ, suc, _+_, _-_, _<_, _≤_}
-use mathlib.Core.Path.{_≡_, refl, sym, _∙_, ap}
+-- A table of counts: what is known before each turn of the loops that count a segment's numbers up, take them off, and empty the table again; and of the loop that sums their cubes. Assumes nothing.
+use Prim.Native.Nat.{ℕ, suc, _+_, _*_, _-_, _<_, _≤_}
+use mathlib.Core.Path.{_≡_, refl, sym, _∙_, ap, ap₂}
 use mathlib.Core.Logic.{by-cases}
-use mathlib.Core.Bool.{Bool, true, false}
-use mathlib.Core.List.{List, _∷_}
+use mathlib.Core.List.{List, [], _∷_}
 use native.Mathlib.Omega.{arith}
 use native.Mathlib.Decide.{ℕ-discrete}
-use borrow.Author.Tests.{eq-eqb, ne-eqb}
+use borrow.Author.Tests.{eq-eqb}
 use lib.Dec.{eqb}
-use lib.ListN.{length, getD, set, length-set}
-use lib.Seq.{getD-set-same, getD-set-other}
-use Rattle.lists.specs.Every.{all, howMany}
-use Rattle.lists.proofs.Laws.Every.{all-none, all-yes, all-no}
-use Rattle.lists.proofs.Laws.Counting.{howMany-none, howMany-yes, howMany-no}
-use Rattle.rounds.specs.Board.{nextStart, numberStart, countStart, otherStart, headStart, placesOn, Linked, Small, Empty, Counts, OnlyTable}
-use Rattle.lists.proofs.Laws.Counting.{howMany-fits}
-use Rattle.rounds.proofs.Laws.Chain.{metFrom, At, met-few, met-start, met-over, met-here, met-next}
+use lib.ListN.{length, getD, take, drop, set, length-set}
+use lib.Seq.{getD-set-same, getD-set-other, drop-cons}
+use Rattle.lists.specs.Every.{howMany}
+use Rattle.lists.proofs.Laws.Part.{length-part, getD-part}
+use Rattle.lists.proofs.Laws.Counting.{howMany-none, howMany-yes, howMany-fits}
+use Rattle.rounds.specs.Board.{numberStart, countStart, segment, markEnd, markOfNumbers, Segment, Empty, Counts, OnlyTable}
+use Rattle.rounds.proofs.Laws.Bags.{count-other, mark-none, mark-more, mark-small}
 
--- how often a number stands in front of others
-count-same : (n : ℕ) (ns : List ℕ) → howMany (eqb n) (n ∷ ns) ≡ suc (howMany (eqb n) ns)
-count-same n ns = howMany-yes (eqb n) n ns (eq-eqb n n refl)
+only-none : (w : List ℕ) → OnlyTable countStart w w
+only-none w = record { length-kept = refl; below = λ i h. refl; above = λ i h. refl }
 
-count-other : (n m : ℕ) (ns : List ℕ) → (n ≡ m → ⊥) → howMany (eqb n) (m ∷ ns) ≡ howMany (eqb n) ns
-count-other n m ns h = howMany-no (eqb n) m ns (ne-eqb n m h)
-
-pub only-none : (table : ℕ) (w : List ℕ) → OnlyTable table w w
-only-none table w = record { length-kept = refl; below = λ i h. refl; above = λ i h. refl }
-
-only-set : (table : ℕ) (w₀ w : List ℕ) (n v : ℕ) → OnlyTable table w₀ w → n < 4096 → OnlyTable table w₀ (set w (table + n) v)
-only-set table w₀ w n v o h = record {
-  length-kept = length-set w (table + n) v ∙ o .length-kept;
-  below = λ i l. getD-set-other w (table + n) i v 0 (λ e. omega (arith, e, l)) ∙ o .below i l;
-  above = λ i l. getD-set-other w (table + n) i v 0 (λ e. omega (arith, e, l, h)) ∙ o .above i l;
+only-set : (w₀ w : List ℕ) (n v : ℕ) → OnlyTable countStart w₀ w → n < 4096 → OnlyTable countStart w₀ (set w (countStart + n) v)
+only-set w₀ w n v o h = record {
+  length-kept = length-set w (countStart + n) v ∙ o .length-kept;
+  below = λ i l. getD-set-other w (countStart + n) i v 0 (λ e. omega (arith, e, l)) ∙ o .below i l;
+  above = λ i l. getD-set-other w (countStart + n) i v 0 (λ e. omega (arith, e, l, h)) ∙ o .above i l;
 }
 
--- a loop along an element's cells that changes a table alone
-pub record Touring (w₀ : List ℕ) (cells table x : ℕ) (w : List ℕ) (c : ℕ) : Type 0 where
-  pub linked : Linked cells w₀
-  pub small : Small cells w₀
-  pub low : countStart ≤ table
-  pub high : table ≤ otherStart
-  pub only : OnlyTable table w₀ w
-  pub at : At cells w₀ x c
+-- a segment, number by number
+module _ (from end : ℕ) (w : List ℕ) (s : Segment from end w) where
+  pub segment-long : length (segment from end w) ≡ end - from
+  segment-long = length-part w (numberStart + from) (end - from) (omega (arith, s .room, s .order, s .few))
 
-pub touring-start : (w : List ℕ) (cells table x c : ℕ) → Linked cells w → Small cells w → x < 128 → countStart ≤ table → table ≤ otherStart → c ≡ getD w (headStart + x) 0 → Touring w cells table x w c
-touring-start w cells table x c l s h low high e =
-    record { linked = l; small = s; low = low; high = high; only = only-none table w; at = met-start cells w l x c h e .0 }
+  pub segment-entries : (i : ℕ) → i < length (segment from end w) → getD (segment from end w) i 0 < 4096
+  segment-entries i h =
+      let e : numberStart + from + i ≡ numberStart + (from + i) = omega arith in
+      omega (arith, getD-part w (numberStart + from) (end - from) i 0 (omega (arith, h, segment-long)), ap (λ (k : ℕ). getD w k 0) e, s .low (from + i) (omega arith) (omega (arith, h, segment-long, s .order)))
 
-module _ (w₀ : List ℕ) (cells table x : ℕ) (w : List ℕ) (c : ℕ) (t : Touring w₀ cells table x w c) where
-  pub long : length w ≡ 20736
-  long = t .only .length-kept ∙ t .linked .room
+  pub segment-mark : markOfNumbers (segment from end w) < markEnd
+  segment-mark = omega (arith, mark-small (segment from end w) segment-entries, segment-long, s .few)
 
-  module _ (h : c < cells) where
-    number-kept : getD w (numberStart + c) 0 ≡ getD w₀ (numberStart + c) 0
-    number-kept = t .only .below (numberStart + c) (omega (arith, h, t .linked .few, t .low))
+segment-over : (i end : ℕ) (w : List ℕ) → end ≤ i → segment i end w ≡ []
+segment-over i end w h = let e : end - i ≡ 0 = omega (arith, h) in rw e refl
 
-    pub number-small : getD w (numberStart + c) 0 < 4096
-    number-small = omega (arith, number-kept, t .small c h)
+segment-here : (i end : ℕ) (w : List ℕ) → i < end → numberStart + i < length w → segment i end w ≡ getD w (numberStart + i) 0 ∷ segment (i + 1) end w
+segment-here i end w h k =
+    let e : end - i ≡ suc (end - (i + 1)) = omega (arith, h) in
+    let d : suc (numberStart + i) ≡ numberStart + (i + 1) = omega arith in
+    ap₂ (λ (n : ℕ) (t : List ℕ). take n t) e (drop-cons w (numberStart + i) 0 k) ∙ ap (λ (j : ℕ). getD w (numberStart + i) 0 ∷ take (end - (i + 1)) (drop j w)) d
 
-    pub number-room : numberStart + c < length w
-    number-room = omega (arith, h, t .linked .few, long)
+-- a loop along a segment that changes the table alone
+pub record Along (w₀ : List ℕ) (from end : ℕ) (w : List ℕ) (i : ℕ) : Type 0 where
+  pub on : Segment from end w₀
+  pub low : from ≤ i
+  pub high : i ≤ end
+  pub only : OnlyTable countStart w₀ w
 
-    pub next-room : nextStart + c < length w
-    next-room = omega (arith, h, t .linked .few, long)
+along-start : (w : List ℕ) (from end : ℕ) → Segment from end w → Along w from end w from
+along-start w from end s = record { on = s; low = omega arith; high = s .order; only = only-none w }
 
-    pub next-room-set : (i v : ℕ) → nextStart + c < length (set w i v)
-    next-room-set i v = omega (arith, next-room, length-set w i v)
+module _ (w₀ : List ℕ) (from end : ℕ) (w : List ℕ) (i : ℕ) (a : Along w₀ from end w i) where
+  pub along-long : length w ≡ length w₀
+  along-long = a .only .length-kept
 
-    pub table-room : table + getD w (numberStart + c) 0 < length w
-    table-room = omega (arith, number-small, t .high, long)
+  long : length w ≡ 20736
+  long = a .only .length-kept ∙ a .on .room
 
-    pub here-is : metFrom cells w₀ x c ≡ getD w (numberStart + c) 0 ∷ metFrom cells w₀ x (c + 1)
-    here-is = met-here cells w₀ (t .linked) x c (t .at) h ∙ ap (λ (n : ℕ). n ∷ metFrom cells w₀ x (c + 1)) (sym number-kept)
+  rest-over : (n : ℕ) → end ≤ i → howMany (eqb n) (segment i end w₀) ≡ 0
+  rest-over n h = ap (howMany (eqb n)) (segment-over i end w₀ h) ∙ howMany-none (eqb n)
 
-    -- after an entry of the table was written
-    module _ (v d : ℕ) (e : d ≡ getD (set w (table + getD w (numberStart + c) 0) v) (nextStart + c) 0) where
-      next-is : d ≡ getD w₀ (nextStart + c) 0
-      next-is =
-          e ∙ getD-set-other w (table + getD w (numberStart + c) 0) (nextStart + c) v 0 (λ q. omega (arith, q, h, t .linked .few, t .low))
-          ∙ t .only .below (nextStart + c) (omega (arith, h, t .linked .few, t .low))
+  module _ (h : i < end) where
+    abbrev met : ℕ
+    met = getD w (numberStart + i) 0
 
-      pub touring-more : Touring w₀ cells table x (set w (table + getD w (numberStart + c) 0) v) d
-      touring-more = record {
-        linked = t .linked;
-        small = t .small;
-        low = t .low;
-        high = t .high;
-        only = only-set table w₀ w (getD w (numberStart + c) 0) v (t .only) number-small;
-        at = met-next cells w₀ (t .linked) x c (t .at) h d next-is .0;
-      }
+    met-kept : getD w (numberStart + i) 0 ≡ getD w₀ (numberStart + i) 0
+    met-kept = a .only .below (numberStart + i) (omega (arith, h, a .on .few))
 
-      pub touring-rest : metFrom cells w₀ x d ≡ metFrom cells w₀ x (c + 1)
-      touring-rest = met-next cells w₀ (t .linked) x c (t .at) h d next-is .1
+    pub met-small : getD w (numberStart + i) 0 < 4096
+    met-small = omega (arith, met-kept, a .on .low i (a .low) h)
 
-      pub touring-less : cells - d < cells - c
-      touring-less = omega (arith, h, met-next cells w₀ (t .linked) x c (t .at) h d next-is .2)
+    pub met-room : numberStart + i < length w
+    met-room = omega (arith, h, a .on .few, long)
 
--- counting
-pub record Counting (w₀ : List ℕ) (cells table x : ℕ) (w : List ℕ) (c : ℕ) : Type 0 where
-  pub tour : Touring w₀ cells table x w c
-  pub counted : (n : ℕ) → n < 4096 → getD w (table + n) 0 + howMany (eqb n) (metFrom cells w₀ x c) ≡ howMany (eqb n) (placesOn cells w₀ x)
+    pub table-room : countStart + getD w (numberStart + i) 0 < length w
+    table-room = omega (arith, met-small, long)
 
-pub counting-start : (w : List ℕ) (cells table x c : ℕ) → Linked cells w → Small cells w → x < 128 → countStart ≤ table → table ≤ otherStart → Empty table w → c ≡ getD w (headStart + x) 0 → Counting w cells table x w c
-counting-start w cells table x c l s h low high z e = record {
-  tour = touring-start w cells table x c l s h low high e;
-  counted = λ n k. omega (arith, z n k, ap (howMany (eqb n)) (met-start cells w l x c h e .1));
-}
+    rest-here : segment i end w₀ ≡ getD w (numberStart + i) 0 ∷ segment (i + 1) end w₀
+    rest-here = segment-here i end w₀ h (omega (arith, h, a .on .few, a .on .room)) ∙ ap (λ (n : ℕ). n ∷ segment (i + 1) end w₀) (sym met-kept)
 
-module _ (w₀ : List ℕ) (cells table x : ℕ) (w : List ℕ) (c : ℕ) (k : Counting w₀ cells table x w c) where
-  pub counting-over : cells ≤ c → Counts table (placesOn cells w₀ x) w
-  counting-over h n l = omega (arith, k .counted n l, ap (howMany (eqb n)) (met-over cells w₀ (k .tour .linked) x c h), howMany-none (eqb n))
+    -- counts of what is left, at the number met and at others
+    rest-same : (n : ℕ) → n ≡ met → howMany (eqb n) (segment i end w₀) ≡ suc (howMany (eqb n) (segment (i + 1) end w₀))
+    rest-same n e = ap (howMany (eqb n)) rest-here ∙ howMany-yes (eqb n) met (segment (i + 1) end w₀) (eq-eqb n met e)
 
-  module _ (h : c < cells) where
-    pub count-small : getD w (table + getD w (numberStart + c) 0) 0 + 1 ≤ 65535
+    rest-other : (n : ℕ) → (n ≡ met → ⊥) → howMany (eqb n) (segment i end w₀) ≡ howMany (eqb n) (segment (i + 1) end w₀)
+    rest-other n e = ap (howMany (eqb n)) rest-here ∙ count-other n met (segment (i + 1) end w₀) e
+
+    -- after the entry of the number met was written
+    module _ (v : ℕ) where
+      along-more : Along w₀ from end (set w (countStart + met) v) (i + 1)
+      along-more = record { on = a .on; low = omega (arith, a .low); high = omega (arith, h); only = only-set w₀ w met v (a .only) met-small }
+
+      entry-same : (n : ℕ) → n ≡ met → getD (set w (countStart + met) v) (countStart + n) 0 ≡ v
+      entry-same n e = ap (λ (k : ℕ). getD (set w (countStart + met) v) (countStart + k) 0) e ∙ getD-set-same w (countStart + met) v 0 table-room
+
+      entry-other : (n : ℕ) → (n ≡ met → ⊥) → getD (set w (countStart + met) v) (countStart + n) 0 ≡ getD w (countStart + n) 0
+      entry-other n e = getD-set-other w (countStart + met) (countStart + n) v 0 (λ u. e (omega (arith, u)))
+
+-- counting up
+pub record Counting (w₀ : List ℕ) (from end : ℕ) (w : List ℕ) (i : ℕ) : Type 0 where
+  pub along : Along w₀ from end w i
+  pub counted : (n : ℕ) → n < 4096 → getD w (countStart + n) 0 + howMany (eqb n) (segment i end w₀) ≡ howMany (eqb n) (segment from end w₀)
+
+pub counting-start : (w : List ℕ) (from end : ℕ) → Segment from end w → Empty countStart w → Counting w from end w from
+counting-start w from end s z = record { along = along-start w from end s; counted = λ n h. omega (arith, z n h) }
+
+module _ (w₀ : List ℕ) (from end : ℕ) (w : List ℕ) (i : ℕ) (k : Counting w₀ from end w i) where
+  pub counting-over : end ≤ i → Counts countStart (segment from end w₀) w
+  counting-over h n l = omega (arith, k .counted n l, rest-over _ _ _ _ _ (k .along) n h)
+
+  module _ (h : i < end) where
+    pub count-small : getD w (countStart + getD w (numberStart + i) 0) 0 + 1 ≤ 65535
     count-small =
-        let n = getD w (numberStart + c) 0 in
-        omega (arith, k .counted n (number-small _ _ _ _ _ _ (k .tour) h), howMany-fits (eqb n) (placesOn cells w₀ x), met-few cells w₀ (k .tour .linked) x)
+        let n = getD w (numberStart + i) 0 in
+        omega (arith, k .counted n (met-small _ _ _ _ _ (k .along) h), howMany-fits (eqb n) (segment from end w₀), segment-long from end w₀ (k .along .on), k .along .on .few)
 
-    pub counting-more : (d : ℕ) → d ≡ getD (set w (table + getD w (numberStart + c) 0) (getD w (table + getD w (numberStart + c) 0) 0 + 1)) (nextStart + c) 0
-        → Counting w₀ cells table x (set w (table + getD w (numberStart + c) 0) (getD w (table + getD w (numberStart + c) 0) 0 + 1)) d
-    counting-more d e = record { tour = touring-more _ _ _ _ _ _ (k .tour) h _ d e; counted = after }
+    pub counting-more : Counting w₀ from end (set w (countStart + getD w (numberStart + i) 0) (getD w (countStart + getD w (numberStart + i) 0) 0 + 1)) (i + 1)
+    counting-more = record { along = along-more _ _ _ _ _ (k .along) h _; counted = after }
       where
-        m : ℕ
-        m = getD w (numberStart + c) 0
+        after : (n : ℕ) → n < 4096 → getD (set w (countStart + getD w (numberStart + i) 0) (getD w (countStart + getD w (numberStart + i) 0) 0 + 1)) (countStart + n) 0 + howMany (eqb n) (segment (i + 1) end w₀) ≡ howMany (eqb n) (segment from end w₀)
+        after n l = by-cases (ℕ-discrete n (getD w (numberStart + i) 0))
+            (λ e. omega (arith, entry-same _ _ _ _ _ (k .along) h (getD w (countStart + getD w (numberStart + i) 0) 0 + 1) n e, ap (λ (j : ℕ). getD w (countStart + j) 0) e, k .counted n l, rest-same _ _ _ _ _ (k .along) h n e))
+            (λ e. omega (arith, entry-other _ _ _ _ _ (k .along) h (getD w (countStart + getD w (numberStart + i) 0) 0 + 1) n e, k .counted n l, rest-other _ _ _ _ _ (k .along) h n e))
 
-        v : ℕ
-        v = getD w (table + getD w (numberStart + c) 0) 0 + 1
+-- taking off
+pub record Lowering (w₀ : List ℕ) (from end : ℕ) (w : List ℕ) (i : ℕ) : Type 0 where
+  pub along : Along w₀ from end w i
+  pub taken : (n : ℕ) → n < 4096 → getD w (countStart + n) 0 + howMany (eqb n) (segment from end w₀) ≡ getD w₀ (countStart + n) 0 + howMany (eqb n) (segment i end w₀)
+  pub fewer : (n : ℕ) → n < 4096 → getD w (countStart + n) 0 ≤ getD w₀ (countStart + n) 0
 
-        rest : List ℕ
-        rest = metFrom cells w₀ x (c + 1)
+pub lowering-start : (w : List ℕ) (from end : ℕ) → Segment from end w → Lowering w from end w from
+lowering-start w from end s = record { along = along-start w from end s; taken = λ n h. refl; fewer = λ n h. omega arith }
 
-        same-rest : (n : ℕ) → howMany (eqb n) (metFrom cells w₀ x d) ≡ howMany (eqb n) (metFrom cells w₀ x (c + 1))
-        same-rest n = ap (howMany (eqb n)) (touring-rest _ _ _ _ _ _ (k .tour) h _ d e)
+module _ (w₀ : List ℕ) (from end : ℕ) (w : List ℕ) (i : ℕ) (k : Lowering w₀ from end w i) where
+  pub lowering-over : end ≤ i → (n : ℕ) → n < 4096 → getD w (countStart + n) 0 + howMany (eqb n) (segment from end w₀) ≡ getD w₀ (countStart + n) 0
+  lowering-over h n l = omega (arith, k .taken n l, rest-over _ _ _ _ _ (k .along) n h)
 
-        before : (n : ℕ) → howMany (eqb n) (metFrom cells w₀ x c) ≡ howMany (eqb n) (getD w (numberStart + c) 0 ∷ metFrom cells w₀ x (c + 1))
-        before n = ap (howMany (eqb n)) (here-is _ _ _ _ _ _ (k .tour) h)
+  module _ (h : i < end) where
+    pub lowering-failed : getD w (countStart + getD w (numberStart + i) 0) 0 ≡ 0 → (n : ℕ) × (n < 4096) × (getD w₀ (countStart + n) 0 < howMany (eqb n) (segment from end w₀))
+    lowering-failed z =
+        let n = getD w (numberStart + i) 0 in
+        let l = met-small _ _ _ _ _ (k .along) h in
+        (n, l, omega (arith, z, k .taken n l, rest-same _ _ _ _ _ (k .along) h n refl))
 
-        after : (n : ℕ) → n < 4096 → getD (set w (table + getD w (numberStart + c) 0) (getD w (table + getD w (numberStart + c) 0) 0 + 1)) (table + n) 0 + howMany (eqb n) (metFrom cells w₀ x d) ≡ howMany (eqb n) (placesOn cells w₀ x)
-        after n l = by-cases (ℕ-discrete n (getD w (numberStart + c) 0)) here there
-          where
-            here : n ≡ getD w (numberStart + c) 0 → getD (set w (table + getD w (numberStart + c) 0) (getD w (table + getD w (numberStart + c) 0) 0 + 1)) (table + n) 0 + howMany (eqb n) (metFrom cells w₀ x d) ≡ howMany (eqb n) (placesOn cells w₀ x)
-            here q = rw (sym q) (omega (arith, getD-set-same w (table + n) (getD w (table + n) 0 + 1) 0 (rw (sym q) at (table-room _ _ _ _ _ _ (k .tour) h)), k .counted n l, same-rest n, before n, ap (λ (j : ℕ). howMany (eqb n) (j ∷ metFrom cells w₀ x (c + 1))) (sym q), count-same n (metFrom cells w₀ x (c + 1))))
+    pub lowering-more :
+        (getD w (countStart + getD w (numberStart + i) 0) 0 ≡ 0 → ⊥)
+        → Lowering w₀ from end (set w (countStart + getD w (numberStart + i) 0) (getD w (countStart + getD w (numberStart + i) 0) 0 - 1)) (i + 1)
+    lowering-more z = record { along = along-more _ _ _ _ _ (k .along) h _; taken = after; fewer = less }
+      where
+        after : (n : ℕ) → n < 4096 → getD (set w (countStart + getD w (numberStart + i) 0) (getD w (countStart + getD w (numberStart + i) 0) 0 - 1)) (countStart + n) 0 + howMany (eqb n) (segment from end w₀) ≡ getD w₀ (countStart + n) 0 + howMany (eqb n) (segment (i + 1) end w₀)
+        after n l = by-cases (ℕ-discrete n (getD w (numberStart + i) 0))
+            (λ e. omega (arith, z, entry-same _ _ _ _ _ (k .along) h (getD w (countStart + getD w (numberStart + i) 0) 0 - 1) n e, ap (λ (j : ℕ). getD w (countStart + j) 0) e, k .taken n l, rest-same _ _ _ _ _ (k .along) h n e))
+            (λ e. omega (arith, entry-other _ _ _ _ _ (k .along) h (getD w (countStart + getD w (numberStart + i) 0) 0 - 1) n e, k .taken n l, rest-other _ _ _ _ _ (k .along) h n e))
 
-            there : (n ≡ getD w (numberStart + c) 0 → ⊥) → getD (set w (table + getD w (numberStart + c) 0) (getD w (table + getD w (numberStart + c) 0) 0 + 1)) (table + n) 0 + howMany (eqb n) (metFrom cells w₀ x d) ≡ howMany (eqb n) (placesOn cells w₀ x)
-            there q = omega (arith, getD-set-other w (table + getD w (numberStart + c) 0) (table + n) (getD w (table + getD w (numberStart + c) 0) 0 + 1) 0 (λ u. q (omega (arith, u))), k .counted n l, same-rest n, before n, count-other n (getD w (numberStart + c) 0) (metFrom cells w₀ x (c + 1)) q)
+        less : (n : ℕ) → n < 4096 → getD (set w (countStart + getD w (numberStart + i) 0) (getD w (countStart + getD w (numberStart + i) 0) 0 - 1)) (countStart + n) 0 ≤ getD w₀ (countStart + n) 0
+        less n l = by-cases (ℕ-discrete n (getD w (numberStart + i) 0))
+            (λ e. omega (arith, entry-same _ _ _ _ _ (k .along) h (getD w (countStart + getD w (numberStart + i) 0) 0 - 1) n e, ap (λ (j : ℕ). getD w (countStart + j) 0) e, k .fewer n l))
+            (λ e. omega (arith, entry-other _ _ _ _ _ (k .along) h (getD w (countStart + getD w (numberStart + i) 0) 0 - 1) n e, k .fewer n l))
 
--- emptying a table that counts the element's numbers
-pub record Emptying (w₀ : List ℕ) (cells table x : ℕ) (w : List ℕ) (c : ℕ) : Type 0 where
-  pub tour : Touring w₀ cells table x w c
-  pub emptied : (n : ℕ) → n < 4096 → howMany (eqb n) (metFrom cells w₀ x c) ≡ 0 → getD w (table + n) 0 ≡ 0
+-- emptying
+pub record Emptying (w₀ : List ℕ) (from end : ℕ) (w : List ℕ) (i : ℕ) : Type 0 where
+  pub along : Along w₀ from end w i
+  pub emptied : (n : ℕ) → n < 4096 → howMany (eqb n) (segment i end w₀) ≡ 0 → getD w (countStart + n) 0 ≡ 0
 
 pub emptying-start :
-    (w : List ℕ) (cells table x c : ℕ) → Linked cells w → Small cells w → x < 128 → countStart ≤ table → table ≤ otherStart → Counts table (placesOn cells w x) w → c ≡ getD w (headStart + x) 0
-    → Emptying w cells table x w c
-emptying-start w cells table x c l s h low high z e = record {
-  tour = touring-start w cells table x c l s h low high e;
-  emptied = λ n k q. omega (arith, z n k, q, ap (howMany (eqb n)) (met-start cells w l x c h e .1));
-}
+    (w : List ℕ) (from end : ℕ) → Segment from end w → ((n : ℕ) → n < 4096 → howMany (eqb n) (segment from end w) ≡ 0 → getD w (countStart + n) 0 ≡ 0) → Emptying w from end w from
+emptying-start w from end s z = record { along = along-start w from end s; emptied = z }
 
-module _ (w₀ : List ℕ) (cells table x : ℕ) (w : List ℕ) (c : ℕ) (k : Emptying w₀ cells table x w c) where
-  pub emptying-over : cells ≤ c → Empty table w
-  emptying-over h n l = k .emptied n l (ap (howMany (eqb n)) (met-over cells w₀ (k .tour .linked) x c h) ∙ howMany-none (eqb n))
+module _ (w₀ : List ℕ) (from end : ℕ) (w : List ℕ) (i : ℕ) (k : Emptying w₀ from end w i) where
+  pub emptying-over : end ≤ i → Empty countStart w
+  emptying-over h n l = k .emptied n l (rest-over _ _ _ _ _ (k .along) n h)
 
-  module _ (h : c < cells) where
-    pub emptying-more : (d : ℕ) → d ≡ getD (set w (table + getD w (numberStart + c) 0) 0) (nextStart + c) 0 → Emptying w₀ cells table x (set w (table + getD w (numberStart + c) 0) 0) d
-    emptying-more d e = record { tour = touring-more _ _ _ _ _ _ (k .tour) h _ d e; emptied = after }
+  module _ (h : i < end) where
+    pub emptying-more : Emptying w₀ from end (set w (countStart + getD w (numberStart + i) 0) 0) (i + 1)
+    emptying-more = record { along = along-more _ _ _ _ _ (k .along) h _; emptied = after }
       where
-        after : (n : ℕ) → n < 4096 → howMany (eqb n) (metFrom cells w₀ x d) ≡ 0 → getD (set w (table + getD w (numberStart + c) 0) 0) (table + n) 0 ≡ 0
-        after n l q = by-cases (ℕ-discrete n (getD w (numberStart + c) 0)) here there
-          where
-            here : n ≡ getD w (numberStart + c) 0 → getD (set w (table + getD w (numberStart + c) 0) 0) (table + n) 0 ≡ 0
-            here u = rw (sym u) (getD-set-same w (table + n) 0 0 (rw (sym u) at (table-room _ _ _ _ _ _ (k .tour) h)))
+        after : (n : ℕ) → n < 4096 → howMany (eqb n) (segment (i + 1) end w₀) ≡ 0 → getD (set w (countStart + getD w (numberStart + i) 0) 0) (countStart + n) 0 ≡ 0
+        after n l q = by-cases (ℕ-discrete n (getD w (numberStart + i) 0))
+            (λ e. entry-same _ _ _ _ _ (k .along) h 0 n e)
+            (λ e. entry-other _ _ _ _ _ (k .along) h 0 n e ∙ k .emptied n l (rest-other _ _ _ _ _ (k .along) h n e ∙ q))
 
-            there : (n ≡ getD w (numberStart + c) 0 → ⊥) → getD (set w (table + getD w (numberStart + c) 0) 0) (table + n) 0 ≡ 0
-            there u =
-                getD-set-other w (table + getD w (numberStart + c) 0) (table + n) 0 0 (λ v. u (omega (arith, v)))
-                ∙ k .emptied n l
-                (omega (arith, q, ap (howMany (eqb n)) (touring-rest _ _ _ _ _ _ (k .tour) h _ d e), ap (howMany (eqb n)) (here-is _ _ _ _ _ _ (k .tour) h), count-other n (getD w (numberStart + c) 0) (metFrom cells w₀ x (c + 1)) u))
+-- summing cubes
+pub record Summing (w : List ℕ) (from end sum i : ℕ) : Type 0 where
+  pub on : Segment from end w
+  pub low : from ≤ i
+  pub summed : sum + markOfNumbers (segment i end w) ≡ markOfNumbers (segment from end w)
 
--- comparing the tables at the element's numbers
-abbrev pub agreesAt : List ℕ → ℕ → Bool
-agreesAt w n = eqb (getD w (countStart + n) 0) (getD w (otherStart + n) 0)
+pub summing-start : (w : List ℕ) (from end : ℕ) → Segment from end w → Summing w from end 0 from
+summing-start w from end s = record { on = s; low = omega arith; summed = omega arith }
 
-pub record Agreeing (w : List ℕ) (cells x c : ℕ) : Type 0 where
-  pub tour : Touring w cells countStart x w c
-  pub same : all (agreesAt w) (metFrom cells w x c) ≡ all (agreesAt w) (placesOn cells w x)
+module _ (w : List ℕ) (from end sum i : ℕ) (k : Summing w from end sum i) where
+  pub summing-over : end ≤ i → sum ≡ markOfNumbers (segment from end w)
+  summing-over h = omega (arith, k .summed, ap markOfNumbers (segment-over i end w h), mark-none)
 
-pub agreeing-start : (w : List ℕ) (cells x c : ℕ) → Linked cells w → Small cells w → x < 128 → c ≡ getD w (headStart + x) 0 → Agreeing w cells x c
-agreeing-start w cells x c l s h e =
-    record { tour = touring-start w cells countStart x c l s h (omega arith) (omega arith) e; same = ap (all (agreesAt w)) (met-start cells w l x c h e .1) }
+  module _ (h : i < end) where
+    pub sum-room : numberStart + i < length w
+    sum-room = omega (arith, h, k .on .few, k .on .room)
 
-module _ (w : List ℕ) (cells x c : ℕ) (k : Agreeing w cells x c) where
-  pub agreeing-over : cells ≤ c → true ≡ all (agreesAt w) (placesOn cells w x)
-  agreeing-over h = sym (all-none (agreesAt w)) ∙ ap (all (agreesAt w)) (sym (met-over cells w (k .tour .linked) x c h)) ∙ k .same
+    pub sum-small : getD w (numberStart + i) 0 < 4096
+    sum-small = k .on .low i (k .low) h
 
-  module _ (h : c < cells) where
-    pub both-rooms : (countStart + getD w (numberStart + c) 0 < length w) × (otherStart + getD w (numberStart + c) 0 < length w)
-    both-rooms =
-        let n = number-small _ _ _ _ _ _ (k .tour) h in
-        let l = long _ _ _ _ _ _ (k .tour) in
-        (omega (arith, n, l), omega (arith, n, l))
+    here : markOfNumbers (segment i end w) ≡ getD w (numberStart + i) 0 * getD w (numberStart + i) 0 * getD w (numberStart + i) 0 + markOfNumbers (segment (i + 1) end w)
+    here = ap markOfNumbers (segment-here i end w h sum-room) ∙ mark-more (getD w (numberStart + i) 0) (segment (i + 1) end w)
 
-    pub agreeing-failed : (getD w (countStart + getD w (numberStart + c) 0) 0 ≡ getD w (otherStart + getD w (numberStart + c) 0) 0 → ⊥) → false ≡ all (agreesAt w) (placesOn cells w x)
-    agreeing-failed n =
-        sym (all-no (agreesAt w) (getD w (numberStart + c) 0) (metFrom cells w x (c + 1)) (ne-eqb _ _ n)) ∙ ap (all (agreesAt w)) (sym (here-is _ _ _ _ _ _ (k .tour) h)) ∙ k .same
+    pub sum-fits : sum + getD w (numberStart + i) 0 * getD w (numberStart + i) 0 * getD w (numberStart + i) 0 < markEnd
+    sum-fits = omega (arith, here, k .summed, segment-mark from end w (k .on))
 
-    pub agreeing-more : (d : ℕ) → d ≡ getD w (nextStart + c) 0 → getD w (countStart + getD w (numberStart + c) 0) 0 ≡ getD w (otherStart + getD w (numberStart + c) 0) 0 → Agreeing w cells x d
-    agreeing-more d e q = record {
-      tour = record { linked = k .tour .linked; small = k .tour .small; low = k .tour .low; high = k .tour .high; only = k .tour .only; at = met-next cells w (k .tour .linked) x c (k .tour .at) h d e .0 };
-      same =
-          ap (all (agreesAt w)) (met-next cells w (k .tour .linked) x c (k .tour .at) h d e .1)
-          ∙ sym (all-yes (agreesAt w) (getD w (numberStart + c) 0) (metFrom cells w x (c + 1)) (eq-eqb _ _ q))
-          ∙ ap (all (agreesAt w)) (sym (here-is _ _ _ _ _ _ (k .tour) h))
-          ∙ k .same;
-    }
-
-    pub agreeing-less : (d : ℕ) → d ≡ getD w (nextStart + c) 0 → cells - d < cells - c
-    agreeing-less d e = omega (arith, h, met-next cells w (k .tour .linked) x c (k .tour .at) h d e .2)
+    pub summing-more : Summing w from end (sum + getD w (numberStart + i) 0 * getD w (numberStart + i) 0 * getD w (numberStart + i) 0) (i + 1)
+    summing-more = record { on = k .on; low = omega (arith, k .low); summed = omega (arith, here, k .summed) }

@@ -21,7 +21,7 @@ use Rattle.rows.proofs.Laws.Given.{size-few}
 use Rattle.rows.proofs.Laws.Check.{length-blank}
 use Rattle.rounds.specs.Colours.{leftColours, rightColours}
 use Rattle.rounds.specs.Round.{Sides}
-use Rattle.rounds.specs.Board.{countStart, otherStart, boardRoom, Empty, Board}
+use Rattle.rounds.specs.Board.{countStart, boardRoom, Empty, Board}
 use Rattle.rounds.proofs.Laws.Colours.{length-left, length-right}
 use Rattle.search.specs.Partners.{PartnersOf}
 use Rattle.search.specs.Machine.{State, refine, imageOf, mapOf, closes, run}
@@ -193,9 +193,6 @@ module _ (w₀ w₁ : List ℕ) (room : workRoom ≤ length w₀) (e : w₁ ≡ 
 
   pub counts-empty : Empty countStart (take boardRoom w₁)
   counts-empty n h = board-zero (countStart + n) (omega arith)
-
-  pub others-empty : Empty otherStart (take boardRoom w₁)
-  others-empty n h = board-zero (otherStart + n) (omega arith)
 
   -- with the board set up
   module _ (board : List ℕ) (long : length board ≡ length (take boardRoom w₁)) where

@@ -1,79 +1,56 @@
--- `rounds::keys::clear_counts` meets its contract. The invariant: at cell c a number that none of the cells from c on has stands with 0 in the table (`Emptying`); the measure is the number
--- of cells from c on. Assumes nothing.
-use Prim.Native.Nat.{_+_, _-_}
-use mathlib.Core.Path.{refl}
+-- `rounds::keys::clear_counts` meets its contract. The invariant: a number that none of those from i on is stands with 0 in the table (`Emptying`); the measure is how many those are.
+-- Assumes nothing.
+use Prim.Native.Nat.{_-_}
 use native.Mathlib.Omega.{arith}
 use borrow.Author.Needs.{needs}
-use Rattle.rounds.specs.Board.{nextStart, headStart}
-use Rattle.rounds.proofs.Laws.Tables.{Emptying, emptying-start, emptying-over, emptying-more, touring-less, number-room, number-small, table-room, next-room-set}
+use Rattle.rounds.proofs.Laws.Tables.{Emptying, emptying-start, emptying-over, emptying-more, met-small, met-room, table-room}
 use Rattle.rounds.proofs.keys.clear_counts.Statement.{statement}
 use Rattle.rounds.proofs.keys.clear_counts.Tie as tie
 
 abbrev Inv-loop : tie.InvT-loop
-Inv-loop board₀ cells table x c₀ board c = Emptying board₀ cells table x board c
+Inv-loop board₀ from end i₀ board i = Emptying board₀ from end board i
 
 abbrev μ-loop : tie.MeasureT-loop
-μ-loop board₀ cells table x c₀ board c = cells - c
-
-add-c : tie.Need-add-c Inv-loop μ-loop
-add-c c = search needs
-
-mul-c : tie.Need-mul-c Inv-loop μ-loop
-mul-c c = search needs
-
-slice-read-c : tie.Need-slice-read-c Inv-loop μ-loop
-slice-read-c c = omega (arith, c .before .pre .0 .room, c .before .pre .2)
-
-cast-c : tie.Need-cast-c Inv-loop μ-loop
-cast-c c = omega (arith, c .slice-known .given (headStart + c .before .args .x))
+μ-loop board₀ from end i₀ board i = end - i
 
 loop-holds : tie.Need-loop-holds Inv-loop μ-loop
-loop-holds c = let p = c .before .pre in emptying-start _ _ _ _ _ (p .0) (p .1) (p .2) (p .3) (p .4) (p .5) refl
+loop-holds c = emptying-start _ _ _ (c .pre .0) (c .pre .1)
 
 add-at : tie.Need-add-at Inv-loop μ-loop
-add-at c = search needs
+add-at c = omega (arith, c .before .loop .inv .along .on .few)
 
 mul-at : tie.Need-mul-at Inv-loop μ-loop
-mul-at c = search needs
+mul-at c = omega (arith, c .before .loop .inv .along .on .few)
 
 slice-read-at : tie.Need-slice-read-at Inv-loop μ-loop
-slice-read-at c = number-room _ _ _ _ _ _ (c .before .before .loop .inv .tour) (c .before .loop-test .taken)
+slice-read-at c = met-room _ _ _ _ _ (c .before .before .loop .inv .along) (c .before .loop-test .taken)
 
 cast-at : tie.Need-cast-at Inv-loop μ-loop
-cast-at c = omega (arith, number-small _ _ _ _ _ _ (c .before .before .loop .inv .tour) (c .before .loop-test .taken))
+cast-at c = omega (arith, met-small _ _ _ _ _ (c .before .before .loop .inv .along) (c .before .loop-test .taken))
 
 add-at-2 : tie.Need-add-at-2 Inv-loop μ-loop
-add-at-2 c = let k = c .before in omega (arith, number-small _ _ _ _ _ _ (k .before .loop .inv .tour) (k .loop-test .taken), k .before .loop .inv .tour .high)
+add-at-2 c = omega (arith, met-small _ _ _ _ _ (c .before .before .loop .inv .along) (c .before .loop-test .taken))
 
 mul-board : tie.Need-mul-board Inv-loop μ-loop
-mul-board c = let k = c .before in omega (arith, number-small _ _ _ _ _ _ (k .before .loop .inv .tour) (k .loop-test .taken), k .before .loop .inv .tour .high)
+mul-board c = omega (arith, met-small _ _ _ _ _ (c .before .before .loop .inv .along) (c .before .loop-test .taken))
 
 slice-write-board : tie.Need-slice-write-board Inv-loop μ-loop
-slice-write-board c = let k = c .before in table-room _ _ _ _ _ _ (k .before .loop .inv .tour) (k .loop-test .taken)
+slice-write-board c = let k = c .before in table-room _ _ _ _ _ (k .before .loop .inv .along) (k .loop-test .taken)
 
-add-c-2 : tie.Need-add-c-2 Inv-loop μ-loop
-add-c-2 c = search needs
-
-mul-c-2 : tie.Need-mul-c-2 Inv-loop μ-loop
-mul-c-2 c = search needs
-
-slice-read-c-2 : tie.Need-slice-read-c-2 Inv-loop μ-loop
-slice-read-c-2 c = let k = c .before .before in next-room-set _ _ _ _ _ _ (k .before .loop .inv .tour) (k .loop-test .taken) _ _
-
-cast-c-2 : tie.Need-cast-c-2 Inv-loop μ-loop
-cast-c-2 c = let k = c .before .before in omega (arith, c .slice-known3 .given (nextStart + k .before .loop .c))
+add-i : tie.Need-add-i Inv-loop μ-loop
+add-i c = search needs
 
 loop-less : tie.Need-loop-less Inv-loop μ-loop
-loop-less c = let k = c .before .before in touring-less _ _ _ _ _ _ (k .before .loop .inv .tour) (k .loop-test .taken) _ _ refl
+loop-less c = search needs
 
 loop-again : tie.Need-loop-again Inv-loop μ-loop
-loop-again c = let k = c .before .before in emptying-more _ _ _ _ _ _ (k .before .loop .inv) (k .loop-test .taken) _ refl
+loop-again c = let k = c .before in emptying-more _ _ _ _ _ (k .before .loop .inv) (k .loop-test .taken)
 
 same-length : tie.Need-same-length Inv-loop μ-loop
-same-length c = c .before .loop .inv .tour .only .length-kept
+same-length c = c .before .loop .inv .along .only .length-kept
 
 returns : tie.Need-returns Inv-loop μ-loop
-returns c = (emptying-over _ _ _ _ _ _ (c .before .loop .inv) (c .loop-test .left), c .before .loop .inv .tour .only)
+returns c = (emptying-over _ _ _ _ _ (c .before .loop .inv) (c .loop-test .left), c .before .loop .inv .along .only)
 
 pub clear-counts-spec : {M : Type 1} → statement M
 clear-counts-spec =
@@ -81,10 +58,6 @@ clear-counts-spec =
     (tie.spec
     Inv-loop
     μ-loop
-    add-c
-    mul-c
-    slice-read-c
-    cast-c
     loop-holds
     add-at
     mul-at
@@ -93,10 +66,7 @@ clear-counts-spec =
     add-at-2
     mul-board
     slice-write-board
-    add-c-2
-    mul-c-2
-    slice-read-c-2
-    cast-c-2
+    add-i
     loop-less
     loop-again
     same-length

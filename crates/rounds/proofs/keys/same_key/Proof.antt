@@ -1,8 +1,11 @@
--- `rounds::keys::same_key` meets its contract: the tables are empty, count the numbers of both elements, are compared, and are emptied again. Assumes nothing.
-use mathlib.Core.Path.{refl, _∙_}
+-- `rounds::keys::same_key` meets its contract: the table is empty, counts the numbers of one element, those of the other are taken off, and it is empty again. Assumes nothing.
+use Prim.Native.Nat.{_+_}
+use mathlib.Core.Path.{refl}
 use native.Mathlib.Omega.{arith}
 use borrow.Author.Needs.{needs}
-use Rattle.rounds.proofs.Laws.Keys.{counted-linked, counted-small, counted-empty, both-counted, both-linked, both-small, both-counts, first-fails, second-tells, emptied-linked, emptied-small, emptied-counts, as-before, alike-differ, alike-counted}
+use Rattle.rounds.specs.Board.{startStart}
+use Rattle.rounds.proofs.Laws.Segments.{segment-of}
+use Rattle.rounds.proofs.Laws.Keys.{alike-differ, pair-of, pair-uneven, pair-other, pair-enough, pair-missing, pair-mine, pair-counts, pair-cleared}
 use Rattle.rounds.proofs.keys.same_key.Statement.{statement}
 use Rattle.rounds.proofs.keys.same_key.Tie as tie
 
@@ -24,71 +27,93 @@ same-length c = search needs
 returns : tie.Need-returns
 returns c = (alike-differ _ _ _ _ _ _ (c .before .before .before .colour-of .ensures) (c .before .colour-of2 .ensures) (c .if1 .taken), refl)
 
-count-up-requires : tie.Need-count-up-requires
-count-up-requires c κs = search needs
+add-from : tie.Need-add-from
+add-from c = search needs
 
-count-up-requires-2 : tie.Need-count-up-requires-2
-count-up-requires-2 c κs =
-    let r = c .before .before .before .before .before .before .before .before .before .before .before .pre .0 in
-    let e = c .before .before .before .count-up .ensures in
-    (counted-linked _ _ _ (c .before .before .before .before .before .before .before .before .before .before .before .args .y) r _ (e .0) (e .1), counted-small _ _ _ (c .before .before .before .before .before .before .before .before .before .before .before .args .y) r _ (e .0) (e .1), c .before .before .before .before .before .before .before .before .before .before .before .pre .2, omega arith, omega arith, counted-empty _ _ _ (c .before .before .before .before .before .before .before .before .before .before .before .args .y) r _ (e .0) (e .1))
+mul-from : tie.Need-mul-from
+mul-from c = search needs
 
-counts-agree-requires : tie.Need-counts-agree-requires
-counts-agree-requires c κs =
-    let e = c .before .before .before .before .before .before .before .count-up .ensures in
-    let f = c .before .before .before .count-up2 .ensures in
-    let k = both-counted _ _ _ _ (c .before .before .before .before .before .before .before .before .before .before .before .before .before .before .before .pre .0) _ (e .0) (e .1) _ (f .0) (f .1) in
-    (both-linked _ _ _ _ _ k, both-small _ _ _ _ _ k, c .before .before .before .before .before .before .before .before .before .before .before .before .before .before .before .pre .1)
+slice-read-from : tie.Need-slice-read-from
+slice-read-from c = let s = c .before .before .before .before .before .before .before in omega (arith, s .pre .0 .listed .room, s .pre .1)
 
-counts-agree-requires-2 : tie.Need-counts-agree-requires-2
-counts-agree-requires-2 c κs =
-    let e = c .before .before .before .before .before .before .before .before .before .count-up .ensures in
-    let f = c .before .before .before .before .before .count-up2 .ensures in
-    let k = both-counted _ _ _ _ (c .before .before .before .before .before .before .before .before .before .before .before .before .before .before .before .before .before .pre .0) _ (e .0) (e .1) _ (f .0) (f .1) in
-    (both-linked _ _ _ _ _ k, both-small _ _ _ _ _ k, c .before .before .before .before .before .before .before .before .before .before .before .before .before .before .before .before .before .pre .2)
+cast-from : tie.Need-cast-from
+cast-from c = omega (arith, c .slice-known2 .given (startStart + c .before .before .before .before .before .before .before .args .x))
 
-clear-counts-requires : tie.Need-clear-counts-requires
-clear-counts-requires c κs =
-    let e = c .before .before .before .before .before .before .before .before .before .before .before .count-up .ensures in
-    let f = c .before .before .before .before .before .before .before .count-up2 .ensures in
-    let k = both-counted _ _ _ _ (c .before .before .before .before .before .before .before .before .before .before .before .before .before .before .before .before .before .before .before .pre .0) _ (e .0) (e .1) _ (f .0) (f .1) in
-    (both-linked _ _ _ _ _ k, both-small _ _ _ _ _ k, c .before .before .before .before .before .before .before .before .before .before .before .before .before .before .before .before .before .before .before .pre .1, omega arith, omega arith, both-counts _ _ _ _ _ k)
+end-of-requires : tie.Need-end-of-requires
+end-of-requires c κs = let s = c .before .before .before .before .before .before .before .before in (s .pre .0 .listed, s .pre .1)
 
-clear-counts-requires-2 : tie.Need-clear-counts-requires-2
-clear-counts-requires-2 c κs =
-    let e = c .before .before .before .before .before .before .before .before .before .before .before .before .before .before .before .count-up .ensures in
-    let f = c .before .before .before .before .before .before .before .before .before .before .before .count-up2 .ensures in
-    let k = both-counted _ _ _ _ (c .before .before .before .before .before .before .before .before .before .before .before .before .before .before .before .before .before .before .before .before .before .before .before .pre .0) _ (e .0) (e .1) _ (f .0) (f .1) in
-    let g = c .before .before .before .clear-counts .ensures in
-    (emptied-linked _ _ _ _ _ k _ (g .0) (g .1), emptied-small _ _ _ _ _ k _ (g .0) (g .1), c .before .before .before .before .before .before .before .before .before .before .before .before .before .before .before .before .before .before .before .before .before .before .before .pre .2, omega arith, omega arith, emptied-counts _ _ _ _ _ k _ (g .0) (g .1))
+add-other-from : tie.Need-add-other-from
+add-other-from c = search needs
+
+mul-other-from : tie.Need-mul-other-from
+mul-other-from c = search needs
+
+slice-read-other-from : tie.Need-slice-read-other-from
+slice-read-other-from c = let s = c .before .before .before .before .before .before .before .before .before .before in omega (arith, s .pre .0 .listed .room, s .pre .2)
+
+cast-other-from : tie.Need-cast-other-from
+cast-other-from c = omega (arith, c .slice-known3 .given (startStart + c .before .before .before .before .before .before .before .before .before .before .args .y))
+
+end-of-requires-2 : tie.Need-end-of-requires-2
+end-of-requires-2 c κs = let s = c .before .before .before .before .before .before .before .before .before .before .before in (s .pre .0 .listed, s .pre .2)
+
+sub-if2 : tie.Need-sub-if2
+sub-if2 c = let s = c .before .before .before .before .before .before .before .before .before .before .before .before in omega (arith, segment-of _ _ (s .pre .0) _ _ _ (s .pre .1) refl (c .before .before .before .end-of .ensures) .order)
+
+sub-if2-2 : tie.Need-sub-if2-2
+sub-if2-2 c = let s = c .before .before .before .before .before .before .before .before .before .before .before .before in omega (arith, segment-of _ _ (s .pre .0) _ _ _ (s .pre .2) refl (c .end-of2 .ensures) .order)
 
 same-length-2 : tie.Need-same-length-2
 same-length-2 c = search needs
 
 returns-2 : tie.Need-returns-2
 returns-2 c =
-    let e = c .before .before .before .before .before .before .before .before .before .before .before .before .before .before .before .before .before .before .before .count-up .ensures in
-    let f = c .before .before .before .before .before .before .before .before .before .before .before .before .before .before .before .count-up2 .ensures in
-    let k = both-counted _ _ _ _ (c .before .before .before .before .before .before .before .before .before .before .before .before .before .before .before .before .before .before .before .before .before .before .before .before .before .before .before .pre .0) _ (e .0) (e .1) _ (f .0) (f .1) in
-    let r = c .before .before .before .before .before .before .before .before .before .before .before .before .before .before .before .before .before .before .before .before .before .before .before .before .before .before .before .pre .0 in
-    let g = c .before .before .before .before .before .before .before .clear-counts .ensures in
-    let h = c .before .before .before .clear-counts2 .ensures in
-    let q = alike-counted _ _ _ _ _ _ (c .before .before .before .before .before .before .before .before .before .before .before .before .before .before .before .before .before .before .before .before .before .before .before .before .colour-of .ensures) (c .before .before .before .before .before .before .before .before .before .before .before .before .before .before .before .before .before .before .before .before .before .before .colour-of2 .ensures) (c .before .before .before .before .before .before .before .before .before .before .before .before .before .before .before .before .before .before .before .before .before .if1 .left) in
-    (second-tells _ _ _ _ _ k _ (c .before .before .before .before .before .before .before .before .before .before .before .counts-agree .ensures) _ (c .before .before .before .before .before .before .before .before .before .counts-agree2 .ensures) (c .if2 .taken) ∙ q, as-before _ _ _ _ _ k _ (g .0) (g .1) (r .empty) (r .other-empty) _ (h .0) (h .1))
+    let s = c .before .before .before .before .before .before .before .before .before .before .before .before .before in
+    let p = pair-of _ _ _ _ _ _ _ _ _ _ (s .pre .0) (s .pre .1) (s .pre .2) (c .before .before .before .before .before .before .before .before .before .before .colour-of .ensures) (c .before .before .before .before .before .before .before .before .colour-of2 .ensures) (c .before .before .before .before .before .before .before .if1 .left) refl (c .before .before .before .before .end-of .ensures) refl (c .before .end-of2 .ensures) in
+    (pair-uneven _ _ _ _ _ _ _ _ p (c .if2 .taken), refl)
+
+count-up-requires : tie.Need-count-up-requires
+count-up-requires c κs =
+    let s = c .before .before .before .before .before .before .before .before .before .before .before .before .before .before in
+    let p = pair-of _ _ _ _ _ _ _ _ _ _ (s .pre .0) (s .pre .1) (s .pre .2) (c .before .before .before .before .before .before .before .before .before .before .before .colour-of .ensures) (c .before .before .before .before .before .before .before .before .before .colour-of2 .ensures) (c .before .before .before .before .before .before .before .before .if1 .left) refl (c .before .before .before .before .before .end-of .ensures) refl (c .before .before .end-of2 .ensures) in
+    (p .mine, p .empty)
+
+count-down-requires : tie.Need-count-down-requires
+count-down-requires c κs =
+    let s = c .before .before .before .before .before .before .before .before .before .before .before .before .before .before .before .before .before .before in
+    let p = pair-of _ _ _ _ _ _ _ _ _ _ (s .pre .0) (s .pre .1) (s .pre .2) (c .before .before .before .before .before .before .before .before .before .before .before .before .before .before .before .colour-of .ensures) (c .before .before .before .before .before .before .before .before .before .before .before .before .before .colour-of2 .ensures) (c .before .before .before .before .before .before .before .before .before .before .before .before .if1 .left) refl (c .before .before .before .before .before .before .before .before .before .end-of .ensures) refl (c .before .before .before .before .before .before .end-of2 .ensures) in
+    pair-other _ _ _ _ _ _ _ _ p (c .before .before .before .before .before .if2 .left) _ (c .before .before .before .count-up .ensures)
 
 same-length-3 : tie.Need-same-length-3
 same-length-3 c = search needs
 
 returns-3 : tie.Need-returns-3
 returns-3 c =
-    let e = c .before .before .before .before .before .before .before .before .before .before .before .before .before .before .before .before .before .before .before .count-up .ensures in
-    let f = c .before .before .before .before .before .before .before .before .before .before .before .before .before .before .before .count-up2 .ensures in
-    let k = both-counted _ _ _ _ (c .before .before .before .before .before .before .before .before .before .before .before .before .before .before .before .before .before .before .before .before .before .before .before .before .before .before .before .pre .0) _ (e .0) (e .1) _ (f .0) (f .1) in
-    let r = c .before .before .before .before .before .before .before .before .before .before .before .before .before .before .before .before .before .before .before .before .before .before .before .before .before .before .before .pre .0 in
-    let g = c .before .before .before .before .before .before .before .clear-counts .ensures in
-    let h = c .before .before .before .clear-counts2 .ensures in
-    let q = alike-counted _ _ _ _ _ _ (c .before .before .before .before .before .before .before .before .before .before .before .before .before .before .before .before .before .before .before .before .before .before .before .before .colour-of .ensures) (c .before .before .before .before .before .before .before .before .before .before .before .before .before .before .before .before .before .before .before .before .before .before .colour-of2 .ensures) (c .before .before .before .before .before .before .before .before .before .before .before .before .before .before .before .before .before .before .before .before .before .if1 .left) in
-    (first-fails _ _ _ _ _ k _ (c .before .before .before .before .before .before .before .before .before .before .before .counts-agree .ensures) (c .if2 .left) ∙ q, as-before _ _ _ _ _ k _ (g .0) (g .1) (r .empty) (r .other-empty) _ (h .0) (h .1))
+    let s = c .before .before .before .before .before .before .before .before .before .before .before .before .before .before .before .before .before .before .before .before .before .before in
+    let p = pair-of _ _ _ _ _ _ _ _ _ _ (s .pre .0) (s .pre .1) (s .pre .2) (c .before .before .before .before .before .before .before .before .before .before .before .before .before .before .before .before .before .before .before .colour-of .ensures) (c .before .before .before .before .before .before .before .before .before .before .before .before .before .before .before .before .before .colour-of2 .ensures) (c .before .before .before .before .before .before .before .before .before .before .before .before .before .before .before .before .if1 .left) refl (c .before .before .before .before .before .before .before .before .before .before .before .before .before .end-of .ensures) refl (c .before .before .before .before .before .before .before .before .before .before .end-of2 .ensures) in
+    let d = c .before .before .before .count-down .ensures in
+    pair-enough _ _ _ _ _ _ _ _ p (c .before .before .before .before .before .before .before .before .before .if2 .left) _ (c .before .before .before .before .before .before .before .count-up .ensures) _ (d .1 .1 .1) (d .0 (c .if3 .taken))
+
+clear-counts-requires : tie.Need-clear-counts-requires
+clear-counts-requires c κs =
+    let s = c .before .before .before .before .before .before .before .before .before .before .before .before .before .before .before .before .before .before .before .before .before .before .before in
+    let p = pair-of _ _ _ _ _ _ _ _ _ _ (s .pre .0) (s .pre .1) (s .pre .2) (c .before .before .before .before .before .before .before .before .before .before .before .before .before .before .before .before .before .before .before .before .colour-of .ensures) (c .before .before .before .before .before .before .before .before .before .before .before .before .before .before .before .before .before .before .colour-of2 .ensures) (c .before .before .before .before .before .before .before .before .before .before .before .before .before .before .before .before .before .if1 .left) refl (c .before .before .before .before .before .before .before .before .before .before .before .before .before .before .end-of .ensures) refl (c .before .before .before .before .before .before .before .before .before .before .before .end-of2 .ensures) in
+    let d = c .before .before .before .before .count-down .ensures in
+    let e = c .before .before .before .before .before .before .before .before .before .before .if2 .left in
+    let u = c .before .before .before .before .before .before .before .before .count-up .ensures in
+    (pair-mine _ _ _ _ _ _ _ _ p e _ u _ (d .1 .1 .1), pair-counts _ _ _ _ _ _ _ _ p e _ u _ (d .1 .1 .1) (d .1 .1 .0))
+
+same-length-4 : tie.Need-same-length-4
+same-length-4 c = search needs
+
+returns-4 : tie.Need-returns-4
+returns-4 c =
+    let s = c .before .before .before .before .before .before .before .before .before .before .before .before .before .before .before .before .before .before .before .before .before .before .before .before .before .before in
+    let p = pair-of _ _ _ _ _ _ _ _ _ _ (s .pre .0) (s .pre .1) (s .pre .2) (c .before .before .before .before .before .before .before .before .before .before .before .before .before .before .before .before .before .before .before .before .before .before .before .colour-of .ensures) (c .before .before .before .before .before .before .before .before .before .before .before .before .before .before .before .before .before .before .before .before .before .colour-of2 .ensures) (c .before .before .before .before .before .before .before .before .before .before .before .before .before .before .before .before .before .before .before .before .if1 .left) refl (c .before .before .before .before .before .before .before .before .before .before .before .before .before .before .before .before .before .end-of .ensures) refl (c .before .before .before .before .before .before .before .before .before .before .before .before .before .before .end-of2 .ensures) in
+    let d = c .before .before .before .before .before .before .before .count-down .ensures in
+    let e = c .before .before .before .before .before .before .before .before .before .before .before .before .before .if2 .left in
+    let u = c .before .before .before .before .before .before .before .before .before .before .before .count-up .ensures in
+    (pair-missing _ _ _ _ _ _ _ _ p e _ u _ (d .1 .1 .1) (d .1 .0 (c .before .before .before .before .if3 .left)), pair-cleared _ _ _ _ _ _ _ _ p e _ u _ (d .1 .1 .1) _ (c .before .before .clear-counts .ensures))
 
 pub same-key-spec : {M : Type 1} → statement M
 same-key-spec =
@@ -100,13 +125,24 @@ same-key-spec =
     colour-of-requires-2
     same-length
     returns
-    count-up-requires
-    count-up-requires-2
-    counts-agree-requires
-    counts-agree-requires-2
-    clear-counts-requires
-    clear-counts-requires-2
+    add-from
+    mul-from
+    slice-read-from
+    cast-from
+    end-of-requires
+    add-other-from
+    mul-other-from
+    slice-read-other-from
+    cast-other-from
+    end-of-requires-2
+    sub-if2
+    sub-if2-2
     same-length-2
     returns-2
+    count-up-requires
+    count-down-requires
     same-length-3
-    returns-3)
+    returns-3
+    clear-counts-requires
+    same-length-4
+    returns-4)

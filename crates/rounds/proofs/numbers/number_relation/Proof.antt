@@ -1,79 +1,107 @@
--- `rounds::numbers::number_relation` meets its contract. The invariant: the cells of the first i rows are numbered (`NumberedTo`); the measure is the number of rows left. Assumes nothing.
-use Prim.Native.Nat.{_-_}
-use mathlib.Core.Path.{refl}
+-- `rounds::numbers::number_relation` meets its contract: its rows are numbered by buckets, and the heads of these emptied again; where it has no columns there are no cells. Assumes nothing.
+use Prim.Native.Nat.{ℕ, _+_, _-_, _*_, _<_, _≤_}
+use mathlib.Core.Path.{_≡_, refl, sym, _∙_, ap}
+use mathlib.Core.Logic.{by-cases}
+use mathlib.Core.List.{List}
 use native.Mathlib.Omega.{arith}
-use borrow.Author.Needs.{needs}
-use Rattle.rounds.proofs.Laws.Numbers.{NumberedTo, numbered-none, numbered-length, numbered-all, row-fits, lines-fit, numbers-fit, part-fits, first-fits, numbered-more}
+use native.Mathlib.Decide.{decLe}
+use lib.ListN.{length, getD}
+use Rattle.rounds.specs.Board.{numberStart, countStart, linkStart, bucketsFor, rowNumbersAt, cellsOn, positionOf, Listed, NumbersAt, Bucketing, Cleared, Renumbered, Empty}
+use Rattle.rounds.proofs.Laws.Listed.{cells-around, listed-around, position-small}
+use Rattle.rounds.proofs.Laws.Buckets.{buckets-fit}
+use Rattle.rounds.proofs.Laws.Numbers.{numbers-long}
 use Rattle.rounds.proofs.numbers.number_relation.Statement.{statement}
 use Rattle.rounds.proofs.numbers.number_relation.Tie as tie
 
-abbrev Inv-loop : tie.InvT-loop
-Inv-loop board₀ base arity rows at₀ i₀ board at i = NumberedTo board₀ base arity rows board at i
+module _ (cells base arity rows : ℕ) (old : List ℕ) (listed : Listed cells old) where
+  -- no cells, nothing to do
+  module _ (none : arity ≤ 0) where
+    no-numbers : NumbersAt cells base (rowNumbersAt base arity rows old) old
+    no-numbers i h =
+        let e : arity ≡ 0 = omega (arith, none) in
+        let z : rows * arity ≡ rows * 0 = ap (λ (n : ℕ). rows * n) e in
+        absurd (omega (arith, h, numbers-long base arity rows old, z))
 
-abbrev μ-loop : tie.MeasureT-loop
-μ-loop board₀ base arity rows at₀ i₀ board at i = rows - i
+    unchanged : Renumbered cells base old old
+    unchanged = record { length-kept = refl; below = λ i h. refl; counts-kept = λ i h l. refl; above = λ i h. refl; numbers-kept = λ c h. refl }
 
-loop-holds : tie.Need-loop-holds Inv-loop μ-loop
-loop-holds c = numbered-none _ _ _ _ (c .before .pre .0) (c .before .pre .1)
+  module _ (buckets : ℕ) (is : buckets ≡ bucketsFor rows) (fits : base + rows * arity ≤ cells) (empty : Empty countStart old) (w : List ℕ) (b : Bucketing cells base (bucketsFor rows) old w) where
+    long : length w ≡ 20736
+    long = b .length-kept ∙ listed .room
 
-first-line-requires : tie.Need-first-line-requires Inv-loop μ-loop
-first-line-requires c κs = lines-fit _ _ _ _ _ _ _ (c .before .before .loop .inv) (c .before .loop-test .taken)
+    few : buckets ≤ 4096
+    few = omega (arith, is, buckets-fit rows 0)
 
-add-start : tie.Need-add-start Inv-loop μ-loop
-add-start c = let k = c .before .before in omega (arith, row-fits _ _ _ _ _ _ _ (k .before .loop .inv) (k .loop-test .taken))
+    module _ (v : List ℕ) (k : Cleared buckets w v) where
+      same-cells : cellsOn cells w ≡ cellsOn cells old
+      same-cells = cells-around cells old w listed (b .length-kept) (b .below) (λ i h l. b .above i h)
 
-mul-write-numbers : tie.Need-mul-write-numbers Inv-loop μ-loop
-mul-write-numbers c = let k = c .before .before in omega (arith, row-fits _ _ _ _ _ _ _ (k .before .loop .inv) (k .loop-test .taken))
+      still-cells : cellsOn cells v ≡ cellsOn cells w
+      still-cells =
+          cells-around cells w v (listed-around cells old w listed (b .length-kept) (b .below) (λ i h l. b .above i h)) (k .length-kept) (λ i h. k .below i (omega (arith, h))) (λ i h l. k .above i (omega (arith, h, few)))
 
-sub-write-numbers : tie.Need-sub-write-numbers Inv-loop μ-loop
-sub-write-numbers c = let k = c .before .before in omega (arith, numbers-fit _ _ _ _ _ _ _ (k .before .loop .inv) (k .loop-test .taken))
+      place-low : (c : ℕ) → c < cells → numberStart + positionOf (cellsOn cells old) c < countStart
+      place-low c h = omega (arith, position-small cells old listed c h, listed .few)
 
-part-write-numbers-start : tie.Need-part-write-numbers-start Inv-loop μ-loop
-part-write-numbers-start c = let k = c .before .before in omega (arith, numbers-fit _ _ _ _ _ _ _ (k .before .loop .inv) (k .loop-test .taken))
+      numbered : NumbersAt cells base (rowNumbersAt base arity rows old) w → NumbersAt cells base (rowNumbersAt base arity rows old) v
+      numbered n i h =
+          ap (λ (es : List ℕ). getD v (numberStart + positionOf es (base + i)) 0) (still-cells ∙ same-cells)
+          ∙ k .below (numberStart + positionOf (cellsOn cells old) (base + i)) (place-low (base + i) (omega (arith, h, numbers-long base arity rows old, fits)))
+          ∙ ap (λ (es : List ℕ). getD w (numberStart + positionOf es (base + i)) 0) (sym same-cells)
+          ∙ n i h
 
-part-write-numbers-end : tie.Need-part-write-numbers-end Inv-loop μ-loop
-part-write-numbers-end c = search needs
+      -- the heads are 0 as before
+      counts : (i : ℕ) → countStart ≤ i → i < linkStart → getD v i 0 ≡ getD old i 0
+      counts i h l =
+          by-cases (decLe (countStart + buckets) i)
+          (λ m. k .above i m ∙ b .counts-kept i (omega (arith, m, is)) l)
+          (λ m.
+          let e : countStart + (i - countStart) ≡ i = omega (arith, h) in
+          rw e at (k .cleared (i - countStart) (omega (arith, m, h)) ∙ sym (empty (i - countStart) (omega (arith, h, l)))))
 
-write-numbers-requires : tie.Need-write-numbers-requires Inv-loop μ-loop
-write-numbers-requires c κs = let k = c .before .before .before in (part-fits _ _ _ _ _ _ _ (k .before .loop .inv) (k .loop-test .taken), first-fits _ _ _ _ _ _ _ (k .before .loop .inv) (k .loop-test .taken) _ _ (c .before .first-line .ensures))
+      renumbered : Renumbered cells base old v
+      renumbered = record {
+        length-kept = k .length-kept ∙ b .length-kept;
+        below = λ i h. k .below i (omega (arith, h)) ∙ b .below i h;
+        counts-kept = counts;
+        above = λ i h. k .above i (omega (arith, h, few)) ∙ b .above i h;
+        numbers-kept = λ c h. k .below (numberStart + positionOf (cellsOn cells old) c) (place-low c (omega (arith, h, fits))) ∙ b .numbers-kept c h;
+      }
 
-add-at : tie.Need-add-at Inv-loop μ-loop
-add-at c = let k = c .before .before .before .before .before .before in omega (arith, row-fits _ _ _ _ _ _ _ (k .before .loop .inv) (k .loop-test .taken))
+buckets-for-requires : tie.Need-buckets-for-requires
+buckets-for-requires c κs = tt
 
-add-i : tie.Need-add-i Inv-loop μ-loop
-add-i c = search needs
+number-rows-requires : tie.Need-number-rows-requires
+number-rows-requires c κs = let p = c .before .before .before .before .pre in (p .0, p .1, (c .before .before .if1 .taken), p .2)
 
-loop-less : tie.Need-loop-less Inv-loop μ-loop
-loop-less c = search needs
+clear-heads-requires : tie.Need-clear-heads-requires
+clear-heads-requires c κs =
+    let p = c .before .before .before .before .before .before .before .before .pre in
+    let b = c .before .before .before .before .before .buckets-for .ensures in
+    let r = c .before .before .before .number-rows .ensures in
+    (long _ _ _ _ _ (p .0) _ b (p .1) (p .2) _ (r .1), few _ _ _ _ _ (p .0) _ b (p .1) (p .2) _ (r .1))
 
-loop-again : tie.Need-loop-again Inv-loop μ-loop
-loop-again c =
-    let k = c .before .before .before .before .before .before in
-    numbered-more _ _ _ _ _ _ _ (k .before .loop .inv) (k .loop-test .taken) _ _ _ _ (c .before .before .before .before .first-line .ensures) refl refl (c .before .before .write-numbers .ensures)
+same-length : tie.Need-same-length
+same-length c = c .before .before .clear-heads .ensures .length-kept ∙ c .before .before .before .before .before .before .number-rows .ensures .1 .length-kept
 
-same-length : tie.Need-same-length Inv-loop μ-loop
-same-length c = numbered-length _ _ _ _ _ _ _ (c .before .loop .inv)
+returns : tie.Need-returns
+returns c =
+    let p = c .before .before .before .before .before .before .before .before .before .before .before .pre in
+    let b = c .before .before .before .before .before .before .before .before .buckets-for .ensures in
+    let r = c .before .before .before .before .before .before .number-rows .ensures in
+    let h = c .before .before .clear-heads .ensures in
+    (numbered _ _ _ _ _ (p .0) _ b (p .1) (p .2) _ (r .1) _ h (r .0), renumbered _ _ _ _ _ (p .0) _ b (p .1) (p .2) _ (r .1) _ h)
 
-returns : tie.Need-returns Inv-loop μ-loop
-returns c = numbered-all _ _ _ _ _ _ _ (c .before .loop .inv) (c .loop-test .left)
+returns-2 : tie.Need-returns-2
+returns-2 c = (no-numbers _ _ _ _ _ (c .before .before .pre .0) (c .if1 .left), unchanged _ _ _ (c .before .before .args .rows) _ (c .before .before .pre .0) (c .if1 .left))
 
 pub number-relation-spec : {M : Type 1} → statement M
 number-relation-spec =
     tie.close
     (tie.spec
-    Inv-loop
-    μ-loop
-    loop-holds
-    first-line-requires
-    add-start
-    mul-write-numbers
-    sub-write-numbers
-    part-write-numbers-start
-    part-write-numbers-end
-    write-numbers-requires
-    add-at
-    add-i
-    loop-less
-    loop-again
+    buckets-for-requires
+    number-rows-requires
+    clear-heads-requires
     same-length
-    returns)
+    returns
+    returns-2)

@@ -1,4 +1,4 @@
--- `rounds::round::prepare` meets its contract: the colours of both sides are written behind the heads, then the cells are numbered by them. Assumes nothing.
+-- `rounds::round::prepare` meets its contract: the colours of both sides are written at the end of the board, then the cells are numbered by them. Assumes nothing.
 use Prim.Native.Nat.{ℕ}
 use mathlib.Core.Path.{_≡_}
 use mathlib.Core.Bool.{true}
@@ -12,7 +12,7 @@ use Rattle.stored.specs.Signature.{signature, sameSignature}
 use Rattle.stored.specs.Reading.{Reads, modelOf}
 use Rattle.stored.proofs.Laws.Reading.{reads-formed}
 use Rattle.rounds.specs.Board.{Board}
-use Rattle.rounds.proofs.Laws.Prepare.{Given, rest-lent, left-fits, long₁, right-fits, long₂, still-laid, same-long, prepared}
+use Rattle.rounds.proofs.Laws.Prepare.{Given, rest-lent, left-fits, long₁, right-fits, coloured, same-long, prepared}
 use Rattle.rounds.proofs.round.prepare.Statement.{statement}
 use Rattle.rounds.proofs.round.prepare.Tie as tie
 
@@ -34,8 +34,9 @@ part-write-colours-end c = search needs
 
 write-colours-requires : tie.Need-write-colours-requires
 write-colours-requires c κs =
-    let s = c .before .before .before .before .before .before in
-    let g = given (s .args .left-colours .now) (s .args .right-colours .now) (s .pre) in
+    let p = c .before .before .before .before .before .before .pre in
+    let a = c .before .before .before .before .before .before .args in
+    let g = given (a .left-colours .now) (a .right-colours .now) p in
     left-fits _ _ _ _ _ _ g
 
 sub-write-colours-2 : tie.Need-sub-write-colours-2
@@ -43,45 +44,50 @@ sub-write-colours-2 c = search needs
 
 part-write-colours-start-2 : tie.Need-part-write-colours-start-2
 part-write-colours-start-2 c =
-    let s = c .before .before .before .before .before .before .before .before .before in
-    let g = given (s .args .left-colours .now) (s .args .right-colours .now) (s .pre) in
-    let f = rest-lent 20608 (s .args .left-colours .now) (s .args .board .now) _ (c .before .before .write-colours .ensures) in
-    let e = long₁ _ _ _ _ _ _ g _ f in
-    omega (arith, e)
+    let p = c .before .before .before .before .before .before .before .before .before .pre in
+    let a = c .before .before .before .before .before .before .before .before .before .args in
+    let g = given (a .left-colours .now) (a .right-colours .now) p in
+    let f = rest-lent 20608 (a .left-colours .now) (a .board .now) _ (c .before .before .write-colours .ensures) in
+    omega (arith, long₁ _ _ _ _ _ _ g _ f)
 
 part-write-colours-end-2 : tie.Need-part-write-colours-end-2
 part-write-colours-end-2 c = search needs
 
 write-colours-requires-2 : tie.Need-write-colours-requires-2
 write-colours-requires-2 c κs =
-    let s = c .before .before .before .before .before .before .before .before .before .before in
-    let g = given (s .args .left-colours .now) (s .args .right-colours .now) (s .pre) in
-    let f = rest-lent 20608 (s .args .left-colours .now) (s .args .board .now) _ (c .before .before .before .write-colours .ensures) in
+    let p = c .before .before .before .before .before .before .before .before .before .before .pre in
+    let a = c .before .before .before .before .before .before .before .before .before .before .args in
+    let g = given (a .left-colours .now) (a .right-colours .now) p in
+    let f = rest-lent 20608 (a .left-colours .now) (a .board .now) _ (c .before .before .before .write-colours .ensures) in
     right-fits _ _ _ _ _ _ g _ f
 
 number-cells-requires : tie.Need-number-cells-requires
 number-cells-requires c κs =
-    let s = c .before .before .before .before .before .before .before .before .before .before .before .before .before .before in
-    let g = given (s .args .left-colours .now) (s .args .right-colours .now) (s .pre) in
-    let f = rest-lent 20608 (s .args .left-colours .now) (s .args .board .now) _ (c .before .before .before .before .before .before .before .write-colours .ensures) in
-    let h = rest-lent 20672 (s .args .right-colours .now) _ _ (c .before .before .before .write-colours2 .ensures) in
-    (s .pre .0, s .pre .1, s .pre .2, long₂ _ _ _ _ _ _ g _ f _ h, still-laid _ _ _ _ _ _ g _ f _ h)
+    let p = c .before .before .before .before .before .before .before .before .before .before .before .before .before .before .pre in
+    let a = c .before .before .before .before .before .before .before .before .before .before .before .before .before .before .args in
+    let g = given (a .left-colours .now) (a .right-colours .now) p in
+    let f = rest-lent 20608 (a .left-colours .now) (a .board .now) _ (c .before .before .before .before .before .before .before .write-colours .ensures) in
+    let h = rest-lent 20672 (a .right-colours .now) _ _ (c .before .before .before .write-colours2 .ensures) in
+    let b = coloured _ _ _ _ _ _ g _ f _ h in
+    (p .0, p .1, p .2, b .listed, b .empty, b .as-many, b .laid)
 
 same-length : tie.Need-same-length
 same-length c =
-    let s = c .before .before .before .before .before .before .before .before .before .before .before .before .before .before .before .before .before in
-    let g = given (s .args .left-colours .now) (s .args .right-colours .now) (s .pre) in
-    let f = rest-lent 20608 (s .args .left-colours .now) (s .args .board .now) _ (c .before .before .before .before .before .before .before .before .before .before .write-colours .ensures) in
-    let h = rest-lent 20672 (s .args .right-colours .now) _ _ (c .before .before .before .before .before .before .write-colours2 .ensures) in
-    same-long _ _ _ _ _ _ g _ f _ h _ (c .before .before .number-cells .ensures)
+    let p = c .before .before .before .before .before .before .before .before .before .before .before .before .before .before .before .before .before .pre in
+    let a = c .before .before .before .before .before .before .before .before .before .before .before .before .before .before .before .before .before .args in
+    let g = given (a .left-colours .now) (a .right-colours .now) p in
+    let f = rest-lent 20608 (a .left-colours .now) (a .board .now) _ (c .before .before .before .before .before .before .before .before .before .before .write-colours .ensures) in
+    let h = rest-lent 20672 (a .right-colours .now) _ _ (c .before .before .before .before .before .before .write-colours2 .ensures) in
+    same-long _ _ _ _ _ _ g _ f _ h _ (c .before .before .number-cells .ensures .0) (c .before .before .number-cells .ensures .1)
 
 returns : tie.Need-returns
 returns c =
-    let s = c .before .before .before .before .before .before .before .before .before .before .before .before .before .before .before .before .before in
-    let g = given (s .args .left-colours .now) (s .args .right-colours .now) (s .pre) in
-    let f = rest-lent 20608 (s .args .left-colours .now) (s .args .board .now) _ (c .before .before .before .before .before .before .before .before .before .before .write-colours .ensures) in
-    let h = rest-lent 20672 (s .args .right-colours .now) _ _ (c .before .before .before .before .before .before .write-colours2 .ensures) in
-    prepared _ _ _ _ _ _ g _ f _ h _ (c .before .before .number-cells .ensures)
+    let p = c .before .before .before .before .before .before .before .before .before .before .before .before .before .before .before .before .before .pre in
+    let a = c .before .before .before .before .before .before .before .before .before .before .before .before .before .before .before .before .before .args in
+    let g = given (a .left-colours .now) (a .right-colours .now) p in
+    let f = rest-lent 20608 (a .left-colours .now) (a .board .now) _ (c .before .before .before .before .before .before .before .before .before .before .write-colours .ensures) in
+    let h = rest-lent 20672 (a .right-colours .now) _ _ (c .before .before .before .before .before .before .write-colours2 .ensures) in
+    prepared _ _ _ _ _ _ g _ f _ h _ (c .before .before .number-cells .ensures .0) (c .before .before .number-cells .ensures .1)
 
 pub prepare-spec : {M : Type 1} → statement M
 prepare-spec =

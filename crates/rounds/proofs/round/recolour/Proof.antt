@@ -1,8 +1,10 @@
--- `rounds::round::recolour` meets its contract: a prepared board, the left grouped, then the right with what the left holds. Assumes nothing.
+-- `rounds::round::recolour` meets its contract: a prepared board, and both sides grouped on it. Assumes nothing.
+use mathlib.Core.Path.{sym, _∙_, ap}
 use native.Mathlib.Omega.{arith}
 use borrow.Author.Needs.{needs}
+use lib.ListN.{length}
 use Rattle.stored.proofs.Laws.Reading.{roots-inside}
-use Rattle.rounds.proofs.Laws.Recoloured.{first-ready, second-ready, recoloured-both, board-kept}
+use Rattle.rounds.proofs.Laws.Recoloured.{sides-ready, recoloured-both, board-kept}
 use Rattle.rounds.proofs.round.recolour.Statement.{statement}
 use Rattle.rounds.proofs.round.recolour.Tie as tie
 
@@ -15,40 +17,26 @@ add-end c = omega (arith, roots-inside _ _ (c .before .before .before .before .b
 add-other-end : tie.Need-add-other-end
 add-other-end c = omega (arith, roots-inside _ _ (c .before .before .before .before .before .before .before .before .before .before .before .before .before .pre .1))
 
-no-holders-requires : tie.Need-no-holders-requires
-no-holders-requires c κs = search needs
+sub-group-sides : tie.Need-sub-group-sides
+sub-group-sides c = search needs
 
-sub-group-side : tie.Need-sub-group-side
-sub-group-side c = search needs
+part-group-sides-start : tie.Need-part-group-sides-start
+part-group-sides-start c = search needs
 
-part-group-side-start : tie.Need-part-group-side-start
-part-group-side-start c = search needs
+part-group-sides-end : tie.Need-part-group-sides-end
+part-group-sides-end c = roots-inside _ _ (c .before .before .before .before .before .before .before .before .before .before .before .before .before .before .pre .0)
 
-part-group-side-end : tie.Need-part-group-side-end
-part-group-side-end c = roots-inside _ _ (c .before .before .before .before .before .before .before .before .before .before .before .before .before .before .before .pre .0)
+sub-group-sides-2 : tie.Need-sub-group-sides-2
+sub-group-sides-2 c = search needs
 
-slice-aggregate-group-side : tie.Need-slice-aggregate-group-side
-slice-aggregate-group-side c = search needs
+part-group-sides-start-2 : tie.Need-part-group-sides-start-2
+part-group-sides-start-2 c = search needs
 
-group-side-requires : tie.Need-group-side-requires
-group-side-requires c κs = first-ready _ _ _ _ (c .before .before .before .before .before .before .before .before .before .before .before .before .before .before .before .before .before .before .pre .0) (c .before .before .before .before .before .before .before .before .before .before .before .before .before .before .before .before .before .before .pre .1) (c .before .before .before .before .before .before .before .before .before .before .before .before .before .before .before .before .before .before .pre .2) _ _ _ _ (c .before .before .before .before .before .before .before .before .before .prepare .ensures) (c .before .before .before .before .before .before .before .before .before .before .before .before .before .before .before .before .before .before .pre .4) (c .before .before .before .before .before .before .before .before .before .before .before .before .before .before .before .before .before .before .pre .5) (c .before .before .before .before .no-holders .result) (c .before .before .before .before .no-holders .ensures)
+part-group-sides-end-2 : tie.Need-part-group-sides-end-2
+part-group-sides-end-2 c = roots-inside _ _ (c .before .before .before .before .before .before .before .before .before .before .before .before .before .before .before .pre .1)
 
-sub-group-side-2 : tie.Need-sub-group-side-2
-sub-group-side-2 c = search needs
-
-part-group-side-start-2 : tie.Need-part-group-side-start-2
-part-group-side-start-2 c = search needs
-
-part-group-side-end-2 : tie.Need-part-group-side-end-2
-part-group-side-end-2 c = roots-inside _ _ (c .before .before .before .before .before .before .before .before .before .before .before .before .before .before .before .before .before .before .before .before .before .before .before .before .before .pre .1)
-
-slice-aggregate-group-side-2 : tie.Need-slice-aggregate-group-side-2
-slice-aggregate-group-side-2 c = search needs
-
-group-side-requires-2 : tie.Need-group-side-requires-2
-group-side-requires-2 c κs =
-    let e = c .before .before .before .before .before .before .before .before .before .group-side .ensures in
-    second-ready _ _ _ _ (c .before .before .before .before .before .before .before .before .before .before .before .before .before .before .before .before .before .before .before .before .before .before .before .before .before .before .before .before .pre .0) (c .before .before .before .before .before .before .before .before .before .before .before .before .before .before .before .before .before .before .before .before .before .before .before .before .before .before .before .before .pre .1) (c .before .before .before .before .before .before .before .before .before .before .before .before .before .before .before .before .before .before .before .before .before .before .before .before .before .before .before .before .pre .2) _ _ _ _ (c .before .before .before .before .before .before .before .before .before .before .before .before .before .before .before .before .before .before .before .prepare .ensures) (c .before .before .before .before .before .before .before .before .before .before .before .before .before .before .before .before .before .before .before .before .before .before .before .before .before .before .before .before .pre .4) (c .before .before .before .before .before .before .before .before .before .before .before .before .before .before .before .before .before .before .before .before .before .before .before .before .before .before .before .before .pre .5) _ (c .before .before .before .before .before .before .before .before .before .before .before .before .before .before .no-holders .result) (c .before .before .before .before .before .before .before .before .before .group-side .last .1 .1 .1 .1 .0) _ (e .1 .1 .1) (c .before .before .before .before .before .before .before .before .before .before .before .before .before .before .no-holders .ensures) (e .1 .1 .0)
+group-sides-requires : tie.Need-group-sides-requires
+group-sides-requires c κs = let p = c .before .before .before .before .before .before .before .before .before .before .before .before .before .before .before .before .before .before .pre in sides-ready _ _ _ _ (p .0) (p .1) (p .2) _ _ _ _ (c .before .before .before .before .before .before .before .before .before .prepare .ensures) (p .4) (p .5)
 
 same-length : tie.Need-same-length
 same-length c = search needs
@@ -61,9 +49,11 @@ same-length-3 c = search needs
 
 returns : tie.Need-returns
 returns c =
-    let e = c .before .before .before .before .before .before .before .before .before .before .before .before .before .before .before .group-side .ensures in
-    let f = c .before .before .before .before .before .group-side2 .ensures in
-    (recoloured-both _ _ _ _ (c .before .before .before .before .before .before .before .before .before .before .before .before .before .before .before .before .before .before .before .before .before .before .before .before .before .before .before .before .before .before .before .before .before .before .pre .0) (c .before .before .before .before .before .before .before .before .before .before .before .before .before .before .before .before .before .before .before .before .before .before .before .before .before .before .before .before .before .before .before .before .before .before .pre .1) (c .before .before .before .before .before .before .before .before .before .before .before .before .before .before .before .before .before .before .before .before .before .before .before .before .before .before .before .before .before .before .before .before .before .before .pre .2) _ _ _ _ (c .before .before .before .before .before .before .before .before .before .before .before .before .before .before .before .before .before .before .before .before .before .before .before .before .before .prepare .ensures) (c .before .before .before .before .before .before .before .before .before .before .before .before .before .before .before .before .before .before .before .before .before .before .before .before .before .before .before .before .before .before .before .before .before .before .pre .4) (c .before .before .before .before .before .before .before .before .before .before .before .before .before .before .before .before .before .before .before .before .before .before .before .before .before .before .before .before .before .before .before .before .before .before .pre .5) (c .before .before .before .before .before .before .before .before .before .before .before .before .before .before .before .before .before .before .before .before .no-holders .result) (c .before .before .before .before .before .before .before .before .before .before .before .before .before .before .before .group-side .last .1 .1 .1 .1 .0) (c .before .before .before .before .before .before .before .before .before .before .before .before .before .before .before .group-side .result) _ _ _ (e .0) (e .1 .0) (e .1 .1 .1) (f .0), board-kept _ _ _ _ (c .before .before .before .before .before .before .before .before .before .before .before .before .before .before .before .before .before .before .before .before .before .before .before .before .before .before .before .before .before .before .before .before .before .before .pre .0) (c .before .before .before .before .before .before .before .before .before .before .before .before .before .before .before .before .before .before .before .before .before .before .before .before .before .before .before .before .before .before .before .before .before .before .pre .1) (c .before .before .before .before .before .before .before .before .before .before .before .before .before .before .before .before .before .before .before .before .before .before .before .before .before .before .before .before .before .before .before .before .before .before .pre .2) _ _ _ _ (c .before .before .before .before .before .before .before .before .before .before .before .before .before .before .before .before .before .before .before .before .before .before .before .before .before .prepare .ensures) (c .before .before .before .before .before .before .before .before .before .before .before .before .before .before .before .before .before .before .before .before .before .before .before .before .before .before .before .before .before .before .before .before .before .before .pre .4) (c .before .before .before .before .before .before .before .before .before .before .before .before .before .before .before .before .before .before .before .before .before .before .before .before .before .before .before .before .before .before .before .before .before .before .pre .5) _ _ (e .1 .1 .1) (f .1 .1 .1))
+    let p = c .before .before .before .before .before .before .before .before .before .before .before .before .before .before .before .before .before .before .before .before .before .before .before .before .before .pre in
+    let e = c .before .before .before .before .before .before .group-sides .ensures in (
+      recoloured-both _ _ _ _ (p .0) (p .1) (p .2) _ _ _ _ (c .before .before .before .before .before .before .before .before .before .before .before .before .before .before .before .before .prepare .ensures) (p .4) (p .5) _ _ (e .0) (e .1 .0),
+      board-kept _ _ _ _ (p .0) (p .1) (p .2) _ _ _ _ (c .before .before .before .before .before .before .before .before .before .before .before .before .before .before .before .before .prepare .ensures) (p .4) (p .5) _ (e .1 .1),
+    )
 
 pub recolour-spec : {M : Type 1} → statement M
 recolour-spec =
@@ -72,17 +62,13 @@ recolour-spec =
     prepare-requires
     add-end
     add-other-end
-    no-holders-requires
-    sub-group-side
-    part-group-side-start
-    part-group-side-end
-    slice-aggregate-group-side
-    group-side-requires
-    sub-group-side-2
-    part-group-side-start-2
-    part-group-side-end-2
-    slice-aggregate-group-side-2
-    group-side-requires-2
+    sub-group-sides
+    part-group-sides-start
+    part-group-sides-end
+    sub-group-sides-2
+    part-group-sides-start-2
+    part-group-sides-end-2
+    group-sides-requires
     same-length
     same-length-2
     same-length-3

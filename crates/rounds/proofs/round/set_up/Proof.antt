@@ -1,20 +1,18 @@
--- `rounds::round::set_up` meets its contract: the cells are laid over the front of the board, then linked, and the tables are as they came. Assumes nothing.
+-- `rounds::round::set_up` meets its contract: the cells are laid over the front of the board, then listed, and the table of counts is as it came. Assumes nothing.
 use borrow.Author.Needs.{needs}
 use Rattle.stored.proofs.Laws.Reading.{reads-formed}
-use Rattle.rounds.proofs.Laws.Prepare.{few-laid, room-laid, known-laid, board-laid}
+use Rattle.rounds.proofs.Laws.Prepare.{elements-laid, board-laid}
 use Rattle.rounds.proofs.round.set_up.Statement.{statement}
 use Rattle.rounds.proofs.round.set_up.Tie as tie
 
 lay-requires : tie.Need-lay-requires
 lay-requires c κs = search needs
 
-link-requires : tie.Need-link-requires
-link-requires c κs =
+list-cells-requires : tie.Need-list-cells-requires
+list-cells-requires c κs =
     let p = c .before .before .before .before .before .before .before .before .pre in
-    let v = reads-formed _ _ (p .0) in
-    let w = reads-formed _ _ (p .1) in
     let e = c .before .before .before .lay .ensures in
-    (room-laid _ _ v w _ _ _ (e .0) (p .3) (e .1), few-laid _ _ v w _ _ _ (e .0) (p .3) (e .1), known-laid _ _ v w _ _ _ (e .0) (p .3) (e .1))
+    elements-laid _ _ (reads-formed _ _ (p .0)) (reads-formed _ _ (p .1)) _ _ _ (e .0) (p .3) (e .1)
 
 same-length : tie.Need-same-length
 same-length c = search needs
@@ -23,8 +21,14 @@ returns : tie.Need-returns
 returns c =
     let p = c .before .before .before .before .before .before .before .before .before .before .before .pre in
     let e = c .before .before .before .before .before .before .lay .ensures in
-    let k = c .before .before .link .ensures in
-    board-laid _ _ (reads-formed _ _ (p .0)) (reads-formed _ _ (p .1)) _ _ _ (e .0) (p .3) (e .1) _ (k .0) (k .1) (p .4) (p .5)
+    let k = c .before .before .list-cells .ensures in
+    board-laid _ _ (reads-formed _ _ (p .0)) (reads-formed _ _ (p .1)) _ _ _ (e .0) (p .3) (e .1) _ (k .0) (k .1) (p .4)
 
 pub set-up-spec : {M : Type 1} → statement M
-set-up-spec = tie.close (tie.spec lay-requires link-requires same-length returns)
+set-up-spec =
+    tie.close
+    (tie.spec
+    lay-requires
+    list-cells-requires
+    same-length
+    returns)

@@ -4,7 +4,7 @@
 use mathlib.Core.Path.{sym}
 use borrow.Author.Needs.{needs}
 use Rattle.stored.proofs.Laws.Reading.{reads-formed}
-use Rattle.search.proofs.Laws.Start.{board-fits, board-long, counts-empty, others-empty, board-there, work-room, room-left, cleared-again, first-small, run-answer, run-output}
+use Rattle.search.proofs.Laws.Start.{board-fits, board-long, counts-empty, board-there, work-room, room-left, cleared-again, first-small, run-answer, run-output}
 use Rattle.search.proofs.machine.search.Statement.{statement}
 use Rattle.search.proofs.machine.search.Tie as tie
 
@@ -25,7 +25,7 @@ set-up-requires : tie.Need-set-up-requires
 set-up-requires c κs =
     let v = c .before .before .before in
     let p = v .before .before .before .before .before .before .before .before .pre in
-    (p .0, p .1, p .4, board-long _ _ (p .8) (v .clear .ensures), counts-empty _ _ (p .8) (v .clear .ensures), others-empty _ _ (p .8) (v .clear .ensures))
+    (p .0, p .1, p .4, board-long _ _ (p .8) (v .clear .ensures), counts-empty _ _ (p .8) (v .clear .ensures))
 
 first-colours-requires : tie.Need-first-colours-requires
 first-colours-requires c κs = let p = c .before .before .before .before .before .before .before .before .before .before .before .before .before .before .pre in (p .0, p .1)
