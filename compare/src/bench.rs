@@ -9,7 +9,7 @@ use crate::clock;
 use crate::expected;
 use crate::file::{File, Meaning};
 use crate::models::families::{bare, cfi, cube, ears, k33, k4, paley, prescription, rings, rook, shrikhande};
-use crate::models::random::full;
+use crate::models::random::{full, with_cells};
 use crate::models::{renumbered, renumbering, shuffled};
 use crate::port::Port;
 use crate::random::Random;
@@ -33,6 +33,34 @@ pub fn run() {
     table.maps(&mut random);
     let (ratio, name) = table.slowest.expect("a scene");
     println!("slowest ratio {ratio:.1} ({name})");
+}
+
+/// How the port's time grows with the cells and with the classes: the time of a search, and of a round in it.
+pub fn growth() {
+    println!("{:42} {:>14} {:>8} {:>14}", "scene", "port (ns)", "units", "a unit (ns)");
+    let mut random = Random::new(43);
+    let mut port = Port::new();
+    for arity in [2, 8] {
+        for cells in [256, 512, 1024, 2048] {
+            grown(&format!("random, {cells} cells, arity {arity}"), with_cells(cells, arity, &mut random), &mut port, &mut random);
+        }
+    }
+    for n in [8, 16, 32, 64] {
+        grown(&format!("ring of {n}"), rings(&[n]), &mut port, &mut random);
+    }
+    for n in [8, 16, 32, 64] {
+        grown(&format!("{n} elements without rows"), bare(n), &mut port, &mut random);
+    }
+}
+
+/// Times the search of a model in itself renumbered, and prints its row.
+fn grown(name: &str, model: Stored, port: &mut Port, random: &mut Random) {
+    let (left, right) = (File::of(&model), File::of(&shuffled(&model, random)));
+    let call = Call::Find { left: &left, right: &right };
+    let lent = ample(&call);
+    let time = (0..2000).map(|_| timed(|| port.ask(black_box(&call), lent))).min().expect("a time") - clock::cost();
+    let units = port.carried[0];
+    println!("{name:42} {time:14} {units:8} {:14}", time / units.max(1));
 }
 
 /// The models of the scenes of find.

@@ -22,12 +22,16 @@ fn main() -> ExitCode {
             bench::run();
             ExitCode::SUCCESS
         }
+        Some("growth") => {
+            bench::growth();
+            ExitCode::SUCCESS
+        }
         Some("vectors") => {
             vectors::write().expect("the list could not be written");
             ExitCode::SUCCESS
         }
         _ => {
-            eprintln!("compare calls | bench | vectors");
+            eprintln!("compare calls | bench | growth | vectors");
             ExitCode::from(2)
         }
     }

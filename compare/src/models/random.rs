@@ -115,8 +115,13 @@ fn near_row(model: &Stored, random: &mut Random) -> Option<(usize, usize, Vec<u8
 
 /// A model of one type of 64 elements with one relation, of 2,048 cells.
 pub fn full(arity: usize, random: &mut Random) -> Stored {
+    with_cells(MOST_CELLS, arity, random)
+}
+
+/// A model of one type of 64 elements with one relation, of so many cells.
+pub fn with_cells(cells: usize, arity: usize, random: &mut Random) -> Stored {
     let mut rows = std::collections::BTreeSet::new();
-    while rows.len() < MOST_CELLS / arity {
+    while rows.len() < cells / arity {
         rows.insert((0..arity).map(|_| random.below(MOST_ELEMENTS) as u8).collect::<Vec<_>>());
     }
     super::model(&[MOST_ELEMENTS as u8], &[(&vec![0; arity], rows.into_iter().collect())])
