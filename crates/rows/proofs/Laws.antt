@@ -1,5 +1,6 @@
 pub mod Rows
 pub mod Packed
+pub mod Starts
 pub mod Canonical
 pub mod Maps
 pub mod Pairs

@@ -5,11 +5,12 @@ ghost use mathlib.Core.List.{map};
 ghost use Prim.Native.Nat.{_≤_, _*_};
 ghost use lib.ListN.{length};
 ghost use Rattle.lists.specs.First.{firsts};
+ghost use Rattle.lists.specs.Numbers.{upFrom};
 ghost use Rattle.lists.specs.Order.{sameRow, ascending};
 ghost use Rattle.lists.specs.Part.{rowsOf};
 ghost use Rattle.stored.specs.Limits.{maxArity};
-ghost use Rattle.rows.specs.Rows.{through, rowsKept};
-ghost use Rattle.rows.specs.Packed.{packed, hasNumber};
+ghost use Rattle.rows.specs.Rows.{through, hasRow, rowsKept};
+ghost use Rattle.rows.specs.Packed.{packed, hasNumber, startAt, Between};
 use crate::rows::look;
 use crate::rows::normal_count;
 use crate::rows::rows_kept;
@@ -43,16 +44,16 @@ fn number_through(table: &[u8], row: &[u8]) -> u64
     number
 }
 
-// Whether a number is that of one of some rows that ascend. Those that may have it are halved until one is left.
-fn has_number(rows: &[u8], arity: usize, count: usize, number: u64) -> bool
-    requires { ⌜ (arity ≤ maxArity) × (count * arity ≤ length (now rows)) × (ascending (rowsOf arity count (now rows)) ≡ true) ⌝ }
+// Whether a number is that of one of some rows that ascend. Those that may have it stand between two places; they are halved until one is left.
+fn has_number(rows: &[u8], arity: usize, count: usize, from: usize, to: usize, number: u64) -> bool
+    requires { ⌜ (arity ≤ maxArity) × (count * arity ≤ length (now rows)) × (ascending (rowsOf arity count (now rows)) ≡ true) × (to ≤ count) × Between number (rowsOf arity count (now rows)) from to ⌝ }
     ensures { λ r. ⌜ r ≡ hasNumber number (rowsOf arity count (now (rows .entry))) ⌝ }
 {
-    if count == 0 {
+    if to <= from {
         return false;
     }
-    let mut first: usize = 0;
-    let mut left = count;
+    let mut first = from;
+    let mut left = to - from;
     while 1 < left {
         let half = left / 2;
         let middle = first + half;
@@ -70,8 +71,74 @@ fn has_number(rows: &[u8], arity: usize, count: usize, number: u64) -> bool
     there == number
 }
 
-// Whether each of some rows, taken through a table, is among others, which ascend. Both are of one arity.
-pub fn rows_found(
+// The first of some rows that ascend whose first entry is at least x.
+fn first_from(rows: &[u8], arity: usize, count: usize, x: usize) -> usize
+    requires { ⌜ (1 ≤ arity) × (count * arity ≤ length (now rows)) × (ascending (rowsOf arity count (now rows)) ≡ true) ⌝ }
+    ensures { λ r. ⌜ r ≡ startAt (rowsOf arity count (now (rows .entry))) x ⌝ }
+{
+    let mut first: usize = 0;
+    let mut left = count;
+    while 0 < left {
+        let rest = left / 2;
+        let middle = first + (left - rest);
+        let at = (middle - 1) * arity;
+        let entry = rows[at] as usize;
+        if entry < x {
+            first = middle;
+        }
+        left = rest;
+    }
+    first
+}
+
+// Where the rows of each first entry start, and where those of the last end.
+pub type Starts = [usize; 65];
+
+// Room for them.
+fn no_starts() -> Starts
+    ensures { λ r. ⌜ length r ≡ 65 ⌝ }
+{
+    [0usize; 65]
+}
+
+fn row_starts(rows: &[u8], arity: usize, count: usize) -> Starts
+    requires { ⌜ (1 ≤ arity) × (count * arity ≤ length (now rows)) × (ascending (rowsOf arity count (now rows)) ≡ true) ⌝ }
+    ensures { λ r. ⌜ r ≡ map (startAt (rowsOf arity count (now (rows .entry)))) (upFrom 0 65) ⌝ }
+{
+    let mut starts = no_starts();
+    let mut x: usize = 0;
+    while x < 65 {
+        let start = first_from(rows, arity, count, x);
+        starts[x] = start;
+        x += 1;
+    }
+    starts
+}
+
+// Whether a row, taken through a table, is among others that ascend: it is looked up among those with its first entry.
+fn is_found(
+    table: &[u8],
+    row: &[u8],
+    starts: &Starts,
+    others: &[u8],
+    arity: usize,
+    count: usize,
+) -> bool
+    requires { ⌜ (1 ≤ arity) × (arity ≤ maxArity) × (length (now row) ≡ arity) × (count * arity ≤ length (now others)) × (ascending (rowsOf arity count (now others)) ≡ true) × (now starts ≡ map (startAt (rowsOf arity count (now others))) (upFrom 0 65)) ⌝ }
+    ensures { λ r. ⌜ r ≡ hasRow (through (now (table .entry)) (now (row .entry))) (rowsOf arity count (now (others .entry))) ⌝ }
+{
+    let number = number_through(table, row);
+    let first = look(table, row[0] as usize) as usize;
+    if 64 <= first {
+        return has_number(others, arity, count, 0, count, number);
+    }
+    let from = starts[first];
+    let to = starts[first + 1];
+    has_number(others, arity, count, from, to, number)
+}
+
+// Whether each of some rows, taken through a table, is among others, which ascend. Both are of one arity, with some column.
+pub(crate) fn rows_found(
     table: &[u8],
     rows: &[u8],
     count: usize,
@@ -79,15 +146,15 @@ pub fn rows_found(
     other_count: usize,
     arity: usize,
 ) -> bool
-    requires { ⌜ (arity ≤ maxArity) × (count * arity ≤ length (now rows)) × («other_count» * arity ≤ length (now others)) × (ascending (rowsOf arity «other_count» (now others)) ≡ true) ⌝ }
+    requires { ⌜ (1 ≤ arity) × (arity ≤ maxArity) × (count * arity ≤ length (now rows)) × («other_count» * arity ≤ length (now others)) × (ascending (rowsOf arity «other_count» (now others)) ≡ true) ⌝ }
     ensures { λ r. ⌜ r ≡ rowsKept (now (table .entry)) (rowsOf arity count (now (rows .entry))) (rowsOf arity «other_count» (now (others .entry))) ⌝ }
 {
+    let starts = row_starts(others, arity, other_count);
     let mut left = count;
     let mut at: usize = 0;
     while 0 < left {
         let end = at + arity;
-        let number = number_through(table, &rows[at..end]);
-        if !has_number(others, arity, other_count, number) {
+        if !is_found(table, &rows[at..end], &starts, others, arity, other_count) {
             return false;
         }
         at = end;
@@ -98,7 +165,7 @@ pub fn rows_found(
 
 // Whether each of some rows, taken through a table, is among the normalised rows of a relation. Where that holds no alias (`plain`) its rows are
 // their own normal form, and they ascend.
-pub(crate) fn rows_among(
+pub fn rows_among(
     table: &[u8],
     rows: &[u8],
     count: usize,
@@ -112,7 +179,9 @@ pub(crate) fn rows_among(
     ensures { λ r. ⌜ r ≡ rowsKept (now (table .entry)) (rowsOf arity count (now (rows .entry))) (map (through (now (roots .entry))) (rowsOf arity «other_count» (now (others .entry)))) ⌝ }
 {
     if plain {
-        return rows_found(table, rows, count, others, other_count, arity);
+        if 0 < arity {
+            return rows_found(table, rows, count, others, other_count, arity);
+        }
     }
     rows_kept(table, rows, count, roots, others, other_count, arity)
 }

@@ -82,7 +82,7 @@ pub fn has_row(
 }
 
 // Whether each of some rows, taken through a table, is among others, taken through another table. Both are of one arity.
-pub fn rows_kept(
+pub(crate) fn rows_kept(
     table: &[u8],
     rows: &[u8],
     count: usize,

@@ -1,5 +1,6 @@
 -- The laws of rows as numbers: the number of a row is built from its front on and stays below 256 to the power of its length; rows of one length that
--- differ have different numbers, and the row that stands before has the lower one. Assumes nothing.
+-- differ have different numbers, and the row that stands before has the lower one; so among rows that ascend a row is found by halving, and they are all
+-- different. Assumes nothing.
 use Prim.Native.Nat.{ℕ, zero, suc, _+_, _-_, _*_, _/_, _<_, _≤_}
 use mathlib.Core.Path.{_≡_, refl, sym, ap, ap₂, _∙_}
 use mathlib.Core.Logic.{_⊎_, inl, inr, by-cases}
@@ -18,13 +19,13 @@ use Rattle.lists.specs.First.{firsts}
 use Rattle.lists.specs.Order.{sameRow, rowBefore, ascendingFrom, ascending}
 use Rattle.lists.proofs.Laws.Tests.{split, clash, same-test}
 use Rattle.lists.proofs.Laws.Every.{any-none, any-yes, any-no, any-mem, getD-mem, getD-inside}
-use Rattle.lists.proofs.Laws.Order.{same-row, same-row-refl, same-either, before-none, before-shorter, before-longer, before-equal, before-differ, ascending-none, ascending-cons, ascendingFrom-yes, ascendingFrom-no}
+use Rattle.lists.proofs.Laws.Order.{same-row, same-row-refl, same-either, before-none, before-equal, before-differ, ascending-none, ascending-cons, ascendingFrom-yes, ascendingFrom-no}
 use Rattle.lists.proofs.Laws.Firsts.{firsts-new}
 use Rattle.lists.specs.Part.{part, rowsOf}
-use Rattle.lists.proofs.Laws.Part.{length-part, getD-part, part-ends, rowsOf-end, length-rowsOf, getD-rowsOf, rowsOf-more}
+use Rattle.lists.proofs.Laws.Part.{length-part, getD-part, part-ends, length-rowsOf, getD-rowsOf, rowsOf-more}
 use Rattle.stored.specs.Limits.{maxArity}
 use Rattle.rows.specs.Rows.{through, hasRow}
-use Rattle.rows.specs.Packed.{packedOnto, packed, hasNumber}
+use Rattle.rows.specs.Packed.{packedOnto, packed, hasNumber, Between}
 use Rattle.rows.proofs.Laws.Rows.{length-through, getD-through}
 
 pub packed-end : (n : ℕ) → packedOnto n [] ≡ n
@@ -142,6 +143,14 @@ any-place p (r ∷ rows) h = go (split (p r)) (any-place p rows)
 abbrev pub Rows : ℕ → List (List ℕ) → Type 0
 Rows a rows = (i : ℕ) → i < length rows → (length (getD rows i []) ≡ a) × Bytes (getD rows i [])
 
+pub ascending-tail : (r : List ℕ) (rows : List (List ℕ)) → ascending (r ∷ rows) ≡ true → ascending rows ≡ true
+ascending-tail r [] h = ascending-none
+ascending-tail r (q ∷ rows) h = go (split (rowBefore r q))
+  where
+    go : (rowBefore r q ≡ true) ⊎ (rowBefore r q ≡ false) → ascending (q ∷ rows) ≡ true
+    go (inl t) = ascending-cons q rows ∙ sym (ascendingFrom-yes r q rows t) ∙ sym (ascending-cons r (q ∷ rows)) ∙ h
+    go (inr f) = clash (sym (ascending-cons r (q ∷ rows)) ∙ h) (ascendingFrom-no r q rows f)
+
 -- the numbers of rows that ascend
 module _ (a : ℕ) where
   rising-from : (r : List ℕ) (rows : List (List ℕ)) → Rows a (r ∷ rows) → ascendingFrom r rows ≡ true → (j : ℕ) → j < length rows → packed r < packed (getD rows j [])
@@ -155,14 +164,6 @@ module _ (a : ℕ) where
       go (inr f) j l ih = clash h (ascendingFrom-no r q rows f)
       go (inl t) zero l ih = here t
       go (inl t) (suc j) l ih = omega (arith, here t, ih (sym (ascendingFrom-yes r q rows t) ∙ h) j (omega arith))
-
-  ascending-tail : (r : List ℕ) (rows : List (List ℕ)) → ascending (r ∷ rows) ≡ true → ascending rows ≡ true
-  ascending-tail r [] h = ascending-none
-  ascending-tail r (q ∷ rows) h = go (split (rowBefore r q))
-    where
-      go : (rowBefore r q ≡ true) ⊎ (rowBefore r q ≡ false) → ascending (q ∷ rows) ≡ true
-      go (inl t) = ascending-cons q rows ∙ sym (ascendingFrom-yes r q rows t) ∙ sym (ascending-cons r (q ∷ rows)) ∙ h
-      go (inr f) = clash (sym (ascending-cons r (q ∷ rows)) ∙ h) (ascendingFrom-no r q rows f)
 
   pub rising : (rows : List (List ℕ)) → Rows a rows → ascending rows ≡ true → (i j : ℕ) → i < j → j < length rows → packed (getD rows i []) < packed (getD rows j [])
   rising [] known h i j l k = absurd (omega arith)
@@ -210,10 +211,17 @@ module _ (s : List ℕ) (a c : ℕ) (fits : c * a ≤ length s) (bytes : Bytes s
       let f = getD-rowsOf a c s j [] k in
       rw (e, f) at (rising a (rowsOf a c s) rows-bytes h i j l (omega (arith, length-rowsOf a c s)))
 
--- where there is no row, none has the number
-pub number-none : (s : List ℕ) (a c number : ℕ) → c ≡ 0 → false ≡ hasNumber number (rowsOf a c s)
+-- where no row may have the number, none has
+pub number-none : (s : List ℕ) (a c from to number : ℕ) → Between number (rowsOf a c s) from to → to ≤ from → false ≡ hasNumber number (rowsOf a c s)
 unfolding hasNumber
-number-none s a c number e = sym (ap (any (λ (row : List ℕ). eqb (packed row) number)) (rowsOf-end a s 0 c (omega arith)) ∙ any-none (λ (row : List ℕ). eqb (packed row) number))
+number-none s a c from to number between h = sym (go (split (any (λ (row : List ℕ). eqb (packed row) number) (rowsOf a c s))))
+  where
+    seen : (i : ℕ) × (i < length (rowsOf a c s)) × (eqb (packed (getD (rowsOf a c s) i [])) number ≡ true) → ⊥
+    seen (i, l, e) = let k = between i l (eqb-true _ _ e) in omega (arith, k .0, k .1)
+
+    go : (any (λ (row : List ℕ). eqb (packed row) number) (rowsOf a c s) ≡ true) ⊎ (any (λ (row : List ℕ). eqb (packed row) number) (rowsOf a c s) ≡ false) → any (λ (row : List ℕ). eqb (packed row) number) (rowsOf a c s) ≡ false
+    go (inl e) = absurd (seen (any-place (λ (row : List ℕ). eqb (packed row) number) (rowsOf a c s) e))
+    go (inr e) = e
 
 -- Halving: of rows whose numbers rise, those from `first` on, `left` of them, hold every row that has the number looked for.
 pub record Halved (s : List ℕ) (a c number first left : ℕ) : Type 0 where
@@ -224,14 +232,14 @@ pub record Halved (s : List ℕ) (a c number first left : ℕ) : Type 0 where
   pub rise : (i j : ℕ) → i < j → j < c → numberAt s a i < numberAt s a j
   pub inside : (k : ℕ) → k < c → numberAt s a k ≡ number → (first ≤ k) × (k < first + left)
 
-pub halved-none : (s : List ℕ) (a c number : ℕ) → a ≤ maxArity → c * a ≤ length s → Bytes s → ascending (rowsOf a c s) ≡ true → 0 < c → Halved s a c number 0 c
-halved-none s a c number short fits bytes h some = record {
+pub halved-none : (s : List ℕ) (a c from to number : ℕ) → a ≤ maxArity → c * a ≤ length s → Bytes s → ascending (rowsOf a c s) ≡ true → to ≤ c → Between number (rowsOf a c s) from to → from < to → Halved s a c number from (to - from)
+halved-none s a c from to number short fits bytes h ends between some = record {
   short = short;
   fits = fits;
   ends = omega arith;
-  some = some;
+  some = omega arith;
   rise = numbers-rise s a c fits bytes h;
-  inside = λ k l e. (omega arith, omega arith);
+  inside = λ k l e. let b = between k (omega (arith, length-rowsOf a c s)) (ap packed (getD-rowsOf a c s k [] l) ∙ e) in (b .0, omega (arith, b .0, b .1));
 }
 
 module _ {s : List ℕ} {a c number first left : ℕ} (by : Halved s a c number first left) where

@@ -38,16 +38,21 @@ module _ {s : List ℕ} {a c number first left : ℕ} (by : Halved s a c number 
   done h n e = ap (λ (m : ℕ). eqb m number) (e ∙ ap packed (part-ends s (first * a) a)) ∙ halved-all by h
 
 abbrev Inv-loop : tie.InvT-loop
-Inv-loop rows arity count number first₀ left₀ first left = Halved rows arity count number first left
+Inv-loop rows arity count from to number first₀ left₀ first left = Halved rows arity count number first left
 
 abbrev μ-loop : tie.MeasureT-loop
-μ-loop rows arity count number first₀ left₀ first left = left
+μ-loop rows arity count from to number first₀ left₀ first left = left
 
 returns : tie.Need-returns Inv-loop μ-loop
-returns c = number-none _ _ _ _ (c .if1 .taken)
+returns c = number-none _ _ _ _ _ _ (c .before .before .pre .4) (c .if1 .taken)
+
+sub-left : tie.Need-sub-left Inv-loop μ-loop
+sub-left c = search needs
 
 loop-holds : tie.Need-loop-holds Inv-loop μ-loop
-loop-holds c = let k = c .before .before .pre in halved-none _ _ _ _ (k .0) (k .1) (λ i. omega (arith, c .before .shared-slice-known .given i)) (k .2) (omega arith)
+loop-holds c =
+    let k = c .before .before .pre in
+    halved-none _ _ _ _ _ _ (k .0) (k .1) (λ i. omega (arith, c .before .shared-slice-known .given i)) (k .2) (k .3) (k .4) (omega arith)
 
 add-middle : tie.Need-add-middle Inv-loop μ-loop
 add-middle c = omega (arith, c .before .loop .inv .ends, c .loop-test .taken, c .before .before .before .before .fits .count)
@@ -70,8 +75,8 @@ part-number-of-end c = halved-fits (c .before .loop .inv) _ (middle (c .before .
 number-of-requires : tie.Need-number-of-requires Inv-loop μ-loop
 number-of-requires c κs = let k = c .before in halved-length (k .before .loop .inv) _ (middle (k .before .loop .inv) (k .loop-test .taken))
 
-sub-left : tie.Need-sub-left Inv-loop μ-loop
-sub-left c = omega arith
+sub-left-2 : tie.Need-sub-left-2 Inv-loop μ-loop
+sub-left-2 c = omega arith
 
 loop-less : tie.Need-loop-less Inv-loop μ-loop
 loop-less c = let k = c .before .before .before in omega (arith, k .loop-test .taken)
@@ -112,6 +117,7 @@ has-number-spec =
     Inv-loop
     μ-loop
     returns
+    sub-left
     loop-holds
     add-middle
     mul-start
@@ -120,7 +126,7 @@ has-number-spec =
     part-number-of-start
     part-number-of-end
     number-of-requires
-    sub-left
+    sub-left-2
     loop-less
     loop-again
     mul-start-2

@@ -1,6 +1,6 @@
 -- `rows::packed::number_of` meets its contract. The invariant: the number of the first j entries is built; the measure is the number of entries left.
 -- Assumes nothing.
-use Prim.Native.Nat.{ℕ, _-_}
+use Prim.Native.Nat.{_-_}
 use mathlib.Core.Path.{refl}
 use native.Mathlib.Omega.{arith}
 use borrow.Author.Needs.{needs}

@@ -5,10 +5,10 @@ use Rattle.rows.proofs.packed.rows_among.Statement.{statement}
 use Rattle.rows.proofs.packed.rows_among.Tie as tie
 
 rows-found-requires : tie.Need-rows-found-requires
-rows-found-requires c κs = let p = c .before .before .before .before .before .pre in (p .0, p .1, p .2, p .3)
+rows-found-requires c κs = let p = c .before .before .before .before .before .before .pre in (c .if2 .taken, p .0, p .1, p .2, p .3)
 
 returns : tie.Need-returns
-returns c = c .rows-found .ensures ∙ ap (rowsKept _ _) (sym (c .before .before .before .before .before .before .pre .4 (c .before .if1 .taken)))
+returns c = c .rows-found .ensures ∙ ap (rowsKept _ _) (sym (c .before .before .before .before .before .before .before .pre .4 (c .before .before .if1 .taken)))
 
 rows-kept-requires : tie.Need-rows-kept-requires
 rows-kept-requires c κs = let p = c .before .before .before .before .before .pre in (p .1, p .2)
