@@ -18,7 +18,7 @@ ghost use Rattle.search.specs.Closing.{OneToOne};
 use rounds::classes::lowest_in;
 use rounds::colours::colour_at;
 use rows::maps::is_rep;
-use rows::packed::rows_found;
+use rows::packed::rows_among;
 use stored::layout::Layout;
 
 // The image of an element: of a representative the one of its colour, of an alias none.
@@ -99,6 +99,9 @@ pub(crate) fn closes(
     ensures { λ r. ⌜ r ≡ machine.closes (modelOf (now (left .entry))) (modelOf (now (right .entry))) (now (map .entry)) ⌝ }
 {
     let relations = in_left.relations;
+    let roots_start = in_right.roots;
+    let roots_end = roots_start + in_right.size;
+    let roots = &right[roots_start..roots_end];
     let mut k: usize = 0;
     while k < relations {
         let start = in_left.rows[k];
@@ -108,7 +111,7 @@ pub(crate) fn closes(
         let arity = in_left.arity[k];
         let rows = &left[start..];
         let others = &right[other_start..];
-        if !rows_found(map, rows, count, others, other_count, arity) {
+        if !rows_among(map, rows, count, true, roots, others, other_count, arity) {
             return false;
         }
         k += 1;

@@ -1,9 +1,9 @@
 -- `search::closing::closes` meets its contract. The invariant: both files were read, their models are canonical, of one signature and alike, the map is one to
 -- one, and the relations from k on close where all do; the measure is the number of relations left. Assumes nothing.
 use Prim.Native.Nat.{ℕ, _+_, _-_, _<_, _≤_}
-use mathlib.Core.Path.{_≡_, sym, _∙_}
+use mathlib.Core.Path.{_≡_, sym, ap, _∙_}
 use mathlib.Core.Bool.{Bool, true, false}
-use mathlib.Core.List.{List}
+use mathlib.Core.List.{List, map}
 use native.Mathlib.Omega.{arith}
 use borrow.Author.Needs.{needs}
 use borrow.Author.Tests.{not-true, not-false}
@@ -15,12 +15,13 @@ use Rattle.stored.specs.declared.layout.Layout.{Layout}
 use Rattle.stored.specs.Limits.{maxRelations, maxArity}
 use Rattle.stored.specs.Model.{relationAt}
 use Rattle.stored.specs.Reading.{modelOf}
-use Rattle.stored.proofs.Laws.Reading.{reads-formed, relations-is, relation-there, few-relations}
+use Rattle.stored.proofs.Laws.Reading.{reads-formed, roots-inside, relations-is, relation-there, few-relations}
 use Rattle.stored.proofs.Laws.WellFormed.{RelationFormed}
 use Rattle.stored.proofs.Laws.Canonical.{RowsThere, rows-there}
-use Rattle.rows.specs.Rows.{rowsKept}
+use Rattle.rows.specs.Rows.{through, rowsKept}
+use Rattle.rows.proofs.Laws.Given.{rootsIn, roots-between}
 use Rattle.rows.proofs.Laws.Rows.{rowsAt, Alike, as-many-relations, same-arity, target-rows}
-use Rattle.rows.proofs.Laws.Canonical.{relation-formed}
+use Rattle.rows.proofs.Laws.Canonical.{relation-formed, canonical-rows}
 use Rattle.search.specs.Machine.{closesAt, closes}
 use Rattle.search.specs.Closing.{OneToOne}
 use Rattle.search.proofs.Laws.Closing.{into, not-into, into-closes}
@@ -71,9 +72,12 @@ module _ (s t f : List ℕ) (l m : Layout) (k : ℕ) (i : Passed s t f l m k) wh
     among-ascend : ascending among ≡ true
     among-ascend = rw (others .same) (formed .rows-ascend)
 
-    module _ (r : Bool) (e : r ≡ rowsKept f given among) where
+    among-plain : map (through (rootsIn t m)) among ≡ among
+    among-plain = rw (roots-between t m (i .alike .1), others .same) (canonical-rows (modelOf t) (i .models .right-plain) k (omega (arith, there, relations-is t m (i .alike .1))))
+
+    module _ (r : Bool) (e : r ≡ rowsKept f given (map (through (rootsIn t m)) among)) where
       is-into : into (modelOf s) (modelOf t) f k ≡ r
-      is-into = sym (rw (rows .same, others .same) at e)
+      is-into = sym (rw (rows .same, others .same) at (e ∙ ap (rowsKept f given) among-plain))
 
       stop : r ≡ false → false ≡ closes (modelOf s) (modelOf t) f
       unfolding closes
@@ -88,14 +92,26 @@ module _ (s t f : List ℕ) (l m : Layout) (k : ℕ) (i : Passed s t f l m k) wh
       }
 
 abbrev Inv-loop : tie.InvT-loop
-Inv-loop left right map in-left in-right relations k₀ k = Passed left right map in-left in-right k
+Inv-loop left right map in-left in-right relations roots-start roots-end roots k₀ k = Passed left right map in-left in-right k
 
 abbrev μ-loop : tie.MeasureT-loop
-μ-loop left right map in-left in-right relations k₀ k = relations - k
+μ-loop left right map in-left in-right relations roots-start roots-end roots k₀ k = relations - k
+
+add-roots-end : tie.Need-add-roots-end Inv-loop μ-loop
+add-roots-end c = omega (arith, roots-inside _ _ (c .before .before .before .pre .1))
+
+sub-roots : tie.Need-sub-roots Inv-loop μ-loop
+sub-roots c = search needs
+
+part-roots-start : tie.Need-part-roots-start Inv-loop μ-loop
+part-roots-start c = search needs
+
+part-roots-end : tie.Need-part-roots-end Inv-loop μ-loop
+part-roots-end c = roots-inside _ _ (c .before .before .before .pre .1)
 
 loop-holds : tie.Need-loop-holds Inv-loop μ-loop
 loop-holds c =
-    let p = c .before .before .before .pre in
+    let p = c .before .before .before .before .pre in
     record {
       alike = (p .0, p .1, p .4);
       models = record { left-formed = reads-formed _ _ (p .0); right-formed = reads-formed _ _ (p .1); left-plain = p .2; right-plain = p .3; one-signature = p .4; are-alike = p .5 };
@@ -151,17 +167,17 @@ part-others-start c = let k = c .before .before .before .before .before .before 
 part-others-end : tie.Need-part-others-end Inv-loop μ-loop
 part-others-end c = search needs
 
-rows-found-requires : tie.Need-rows-found-requires Inv-loop μ-loop
-rows-found-requires c κs =
+rows-among-requires : tie.Need-rows-among-requires Inv-loop μ-loop
+rows-among-requires c κs =
     let k = c .before .before .before .before .before .before .before in
     let i = k .before .loop .inv in
     let h = k .loop-test .taken in
-    (short _ _ _ _ _ _ i h, rows _ _ _ _ _ _ i h .inside, others _ _ _ _ _ _ i h .inside, among-ascend _ _ _ _ _ _ i h)
+    (short _ _ _ _ _ _ i h, rows _ _ _ _ _ _ i h .inside, others _ _ _ _ _ _ i h .inside, among-ascend _ _ _ _ _ _ i h, λ p. among-plain _ _ _ _ _ _ i h)
 
 returns : tie.Need-returns Inv-loop μ-loop
 returns c =
     let k = c .before .before .before .before .before .before .before .before .before in
-    stop _ _ _ _ _ _ (k .before .loop .inv) (k .loop-test .taken) _ (c .before .rows-found .ensures) (not-true _ (c .if1 .taken))
+    stop _ _ _ _ _ _ (k .before .loop .inv) (k .loop-test .taken) _ (c .before .rows-among .ensures) (not-true _ (c .if1 .taken))
 
 add-k : tie.Need-add-k Inv-loop μ-loop
 add-k c = let k = c .before .before .before .before .before .before .before .before .before in omega (arith, few _ _ _ _ _ _ (k .before .loop .inv) (k .loop-test .taken))
@@ -172,7 +188,7 @@ loop-less c = search needs
 loop-again : tie.Need-loop-again Inv-loop μ-loop
 loop-again c =
     let k = c .before .before .before .before .before .before .before .before .before in
-    more _ _ _ _ _ _ (k .before .loop .inv) (k .loop-test .taken) _ (c .before .rows-found .ensures) (not-false _ (c .if1 .left))
+    more _ _ _ _ _ _ (k .before .loop .inv) (k .loop-test .taken) _ (c .before .rows-among .ensures) (not-false _ (c .if1 .left))
 
 returns-2 : tie.Need-returns-2 Inv-loop μ-loop
 returns-2 c = done _ _ _ _ _ _ (c .before .loop .inv) (c .loop-test .left)
@@ -183,6 +199,10 @@ closes-spec =
     (tie.spec
     Inv-loop
     μ-loop
+    add-roots-end
+    sub-roots
+    part-roots-start
+    part-roots-end
     loop-holds
     mul-start
     element-copy-out-start
@@ -200,7 +220,7 @@ closes-spec =
     sub-others
     part-others-start
     part-others-end
-    rows-found-requires
+    rows-among-requires
     returns
     add-k
     loop-less
