@@ -85,8 +85,8 @@ loop-again : tie.Need-loop-again Inv-loop μ-loop
 loop-again c =
     let k = c .before .before .before in
     ⊎-elim
-    (λ w. up (k .before .loop .inv) (k .loop-test .taken) _ (c .before .number-of .ensures) (w .0 .taken) _ (w .1))
-    (λ w. down (k .before .loop .inv) (k .loop-test .taken) _ (c .before .number-of .ensures) (w .0 .left) _ (w .1))
+    (λ w. up (k .before .loop .inv) (k .loop-test .taken) _ (c .before .number-of .ensures) (omega (arith, w .0 .taken)) _ (w .1))
+    (λ w. down (k .before .loop .inv) (k .loop-test .taken) _ (c .before .number-of .ensures) (omega (arith, w .0 .left)) _ (w .1))
     (c .if2 .came)
 
 mul-start-2 : tie.Need-mul-start-2 Inv-loop μ-loop
