@@ -1,8 +1,8 @@
 // A number for each cell, equal exactly where the places are: relation, column, colours along the row. Rows are numbered by buckets of rows with different colours.
 ghost use mathlib.Core.Path.{_≡_};
 ghost use mathlib.Core.Bool.{true};
-ghost use mathlib.Core.List.{[]};
-ghost use Prim.Native.Nat.{_≤_, _<_, _+_, _*_};
+ghost use mathlib.Core.List.{[], _∷_};
+ghost use Prim.Native.Nat.{ℕ, _≤_, _<_, _+_, _*_};
 ghost use lib.ListN.{length, getD};
 ghost use Rattle.lists.specs.First.{firstAt};
 ghost use Rattle.lists.specs.Numbers.{upFrom};
@@ -25,15 +25,15 @@ const COLOURS: usize = 20608;
 
 // The colour of an element on the board.
 pub(crate) fn colour_of(board: &[u16], x: u16) -> u16
+    requires { ⌜ (length (now board) ≡ boardRoom) × (x < 128) ⌝ }
     ensures { λ r. ⌜ r ≡ colourAt (coloursOn (now (board .entry))) x ⌝ }
 {
-    let i = COLOURS + x as usize;
-    if i < board.len() { board[i] } else { 65535 }
+    board[COLOURS + x as usize]
 }
 
 // Whether the colours along two rows of cells are the same.
 fn same_line(board: &[u16], p: usize, q: usize, arity: usize) -> bool
-    requires { ⌜ (p + arity ≤ length (now board)) × (q + arity ≤ length (now board)) ⌝ }
+    requires { ⌜ (length (now board) ≡ boardRoom) × (p + arity ≤ 4096) × ((n : ℕ) → n < arity → getD (now board) (p + n) 0 < 128) × (q + arity ≤ 4096) × ((n : ℕ) → n < arity → getD (now board) (q + n) 0 < 128) ⌝ }
     ensures { λ r. ⌜ r ≡ sameRow (lineAt (now (board .entry)) p arity) (lineAt (now (board .entry)) q arity) ⌝ }
 {
     let mut j: usize = 0;
@@ -50,7 +50,7 @@ fn same_line(board: &[u16], p: usize, q: usize, arity: usize) -> bool
 
 // A code of the colours along a row of cells.
 fn code_of(board: &[u16], p: usize, arity: usize) -> usize
-    requires { ⌜ p + arity ≤ length (now board) ⌝ }
+    requires { ⌜ (length (now board) ≡ boardRoom) × (p + arity ≤ 4096) × ((n : ℕ) → n < arity → getD (now board) (p + n) 0 < 128) ⌝ }
     ensures { λ r. ⌜ r ≡ codeOf (lineAt (now (board .entry)) p arity) ⌝ }
 {
     let mut code: usize = 0;
@@ -99,13 +99,54 @@ fn first_line(
     p: usize,
     bucket: usize,
 ) -> usize
-    requires { ⌜ (length (now board) ≡ boardRoom) × (1 ≤ arity) × (base + rows * arity ≤ 4096) × (place < rows) × (p ≡ base + place * arity) × (bucket ≡ bucketAt rows (linesOn (now board) base arity rows) place) × Bucketed base arity rows (linesOn (now board) base arity rows) (now board) place ⌝ }
+    requires { ⌜ (length (now board) ≡ boardRoom) × (1 ≤ arity) × (base + rows * arity ≤ 4096) × ((n : ℕ) → n < base + rows * arity → getD (now board) n 0 < 128) × (place < rows) × (p ≡ base + place * arity) × (bucket ≡ bucketAt rows (linesOn (now board) base arity rows) place) × Bucketed base arity rows (linesOn (now board) base arity rows) (now board) place ⌝ }
     ensures { λ r. ⌜ r ≡ base + firstAt (sameRow (getD (linesOn (now (board .entry)) base arity rows) place [])) (linesOn (now (board .entry)) base arity rows) * arity ⌝ }
 {
     let mut q = board[COUNTS + bucket] as usize;
     while 0 < q {
         let at = q - 1;
         if same_line(board, p, at, arity) {
+            return at;
+        }
+        q = board[LINKS + at] as usize;
+    }
+    p
+}
+
+// Whether the two cells from p on have the colours c and d.
+fn same_two(board: &[u16], p: usize, c: u16, d: u16) -> bool
+    requires { ⌜ (length (now board) ≡ boardRoom) × (p + 2 ≤ 4096) × ((n : ℕ) → n < 2 → getD (now board) (p + n) 0 < 128) ⌝ }
+    ensures { λ r. ⌜ r ≡ sameRow (c ∷ d ∷ []) (lineAt (now (board .entry)) p 2) ⌝ }
+{
+    let x = colour_of(board, board[p]);
+    if x != c {
+        return false;
+    }
+    let y = colour_of(board, board[p + 1]);
+    if y != d {
+        return false;
+    }
+    true
+}
+
+// The first cell of the first row with the colours c and d of row `place`, whose first cell is p: that of a row in its bucket, or its own.
+fn first_two(
+    board: &[u16],
+    base: usize,
+    rows: usize,
+    place: usize,
+    p: usize,
+    c: u16,
+    d: u16,
+    bucket: usize,
+) -> usize
+    requires { ⌜ (length (now board) ≡ boardRoom) × (base + rows * 2 ≤ 4096) × ((n : ℕ) → n < base + rows * 2 → getD (now board) n 0 < 128) × (place < rows) × (p ≡ base + place * 2) × (lineAt (now board) p 2 ≡ c ∷ d ∷ []) × (bucket ≡ bucketAt rows (linesOn (now board) base 2 rows) place) × Bucketed base 2 rows (linesOn (now board) base 2 rows) (now board) place ⌝ }
+    ensures { λ r. ⌜ r ≡ base + firstAt (sameRow (getD (linesOn (now (board .entry)) base 2 rows) place [])) (linesOn (now (board .entry)) base 2 rows) * 2 ⌝ }
+{
+    let mut q = board[COUNTS + bucket] as usize;
+    while 0 < q {
+        let at = q - 1;
+        if same_two(board, at, c, d) {
             return at;
         }
         q = board[LINKS + at] as usize;
@@ -157,6 +198,27 @@ fn number_rows(board: &mut [u16], cells: usize, base: usize, arity: usize, rows:
     }
 }
 
+// Numbers the cells of a relation of two columns, whose first cell is `base`; the heads of its buckets are left.
+fn number_twos(board: &mut [u16], cells: usize, base: usize, rows: usize)
+    requires { ⌜ Listed cells (now board) × (base + rows * 2 ≤ cells) × Empty countStart (now board) ⌝ }
+    ensures numbers { λ _. ⌜ NumbersAt cells base (rowNumbersAt base 2 rows (now (board .entry))) (now (board .exit)) ⌝ }
+    ensures kept { λ _. ⌜ Bucketing cells base (bucketsFor rows) (now (board .entry)) (now (board .exit)) ⌝ }
+{
+    let mut at = base;
+    let mut i: usize = 0;
+    while i < rows {
+        let c = colour_of(board, board[at]);
+        let d = colour_of(board, board[at + 1]);
+        let code = (c as usize % 4096 * 101 + d as usize) % 4096;
+        let bucket = bucket_of(code, rows);
+        let first = first_two(board, base, rows, i, at, c, d, bucket);
+        keep_line(board, at, first, bucket);
+        write_numbers(board, cells, at, first, 2);
+        at += 2;
+        i += 1;
+    }
+}
+
 // Empties the first so many entries of the table of counts.
 fn clear_heads(board: &mut [u16], count: usize)
     requires { ⌜ (length (now board) ≡ boardRoom) × (count ≤ 4096) ⌝ }
@@ -177,7 +239,11 @@ fn number_relation(board: &mut [u16], cells: usize, base: usize, arity: usize, r
 {
     if 0 < arity {
         let buckets = buckets_for(rows);
-        number_rows(board, cells, base, arity, rows);
+        if arity == 2 {
+            number_twos(board, cells, base, rows);
+        } else {
+            number_rows(board, cells, base, arity, rows);
+        }
         clear_heads(board, buckets);
     }
 }

@@ -3,7 +3,7 @@ use Prim.Native.Nat.{ℕ, zero, suc, _+_, _-_, _<_, _≤_}
 use mathlib.Core.Path.{_≡_, refl, sym, _∙_, ap}
 use mathlib.Core.List.{List, [], _∷_, _++_, append-assoc, append-nil}
 use native.Mathlib.Omega.{arith}
-use lib.ListN.{length, getD, take, drop, length-drop, length-append, drop-of-length-le, List·getD-eq-default}
+use lib.ListN.{length, getD, take, drop, length-drop, length-append, drop-of-length-le}
 use lib.Seq.{getD-drop, length-take-le, drop-at, take-append-le, take-take, drop-drop, getD-append-add}
 use Rattle.lists.specs.Part.{part, over}
 use Rattle.lists.proofs.Laws.Every.{getD-inside}
@@ -13,12 +13,9 @@ use Rattle.rounds.specs.Colours.{noColour, colourAt}
 use Rattle.rounds.specs.Board.{colourStart, lineOf, lineAt, overAt}
 use Rattle.lists.proofs.Laws.Over.{over-split}
 
--- the colour of an element that has one on the board, and of one that has none
+-- the colour of an element that has one on the board
 pub colour-there : (w : List ℕ) (x : ℕ) → colourStart + x < length w → getD w (colourStart + x) 0 ≡ colourAt (drop colourStart w) x
 colour-there w x h = getD-inside w (colourStart + x) 0 noColour h ∙ sym (getD-drop colourStart w x noColour)
-
-pub colour-missing : (w : List ℕ) (x : ℕ) → length w ≤ colourStart + x → noColour ≡ colourAt (drop colourStart w) x
-colour-missing w x h = sym (getD-drop colourStart w x noColour ∙ List·getD-eq-default w noColour h)
 
 -- lines
 pub length-line : (colours row : List ℕ) → length (lineOf colours row) ≡ length row

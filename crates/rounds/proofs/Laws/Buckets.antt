@@ -3,7 +3,7 @@ use Prim.Native.Nat.{ℕ, zero, suc, _+_, _-_, _*_, _%_, _<_, _≤_}
 use mathlib.Core.Path.{_≡_, refl, sym, _∙_, ap, ap₂, subst}
 use mathlib.Core.Logic.{_⊎_, inl, inr, by-cases}
 use mathlib.Core.Bool.{Bool, true, false, _&&_}
-use mathlib.Core.List.{List, []}
+use mathlib.Core.List.{List, [], _∷_}
 use native.Mathlib.Omega.{arith}
 use native.Mathlib.Nat.{mul-le-mul-right, suc-mul}
 use native.Mathlib.Numerals.{add-one}
@@ -11,7 +11,7 @@ use native.Mathlib.Decide.{ℕ-discrete, decLe}
 use borrow.Author.Tests.{eqb-true, eq-eqb, ne-eqb, le-leb, lt-leb}
 use lib.Dec.{eqb}
 use lib.ListN.{length, getD, take, drop, set, length-set, length-map, List·getD-map, drop-of-length-le}
-use lib.Seq.{drop-cons, drop-drop, getD-set-same, getD-set-other}
+use lib.Seq.{drop-cons, drop-drop, getD-set-same, getD-set-other, ext-getD}
 use Rattle.lists.specs.First.{firstAt}
 use Rattle.lists.specs.Order.{sameRow}
 use Rattle.lists.specs.Part.{rowsOf}
@@ -20,7 +20,9 @@ use Rattle.lists.proofs.Laws.First.{firstAt-passes, firstAt-some}
 use Rattle.lists.proofs.Laws.Counting.{same-class}
 use Rattle.lists.proofs.Laws.Order.{same-row, same-row-refl, same-row-sym, same-row-trans}
 use Rattle.lists.proofs.Laws.Part.{length-rowsOf, getD-rowsOf}
+use Rattle.rounds.specs.Colours.{colourAt}
 use Rattle.rounds.specs.Board.{boardRoom, countStart, linkStart, startStart, colourStart, lineOf, lineAt, linesOn, codeFrom, codeOf, bucketsFor, bucketOf, bucketAt, isFirst, lastIn, cellOf, Bucketed, keptLine}
+use Rattle.rounds.proofs.Laws.Board.{line-length, line-entry}
 
 -- rows of some cells each
 pub row-inside : (i n arity : ℕ) → i < n → i * arity + arity ≤ n * arity
@@ -44,6 +46,53 @@ code-over code line j h = ap (codeFrom code) (drop-of-length-le line {i = j} h)
 pub code-next : (code : ℕ) (line : List ℕ) (j : ℕ) → j < length line → codeFrom code (drop j line) ≡ codeFrom ((code * 101 + getD line j 0) % 4096) (drop (j + 1) line)
 unfolding codeFrom
 code-next code line j h = ap (codeFrom code) (drop-cons line j 0 h) ∙ ap (λ (n : ℕ). codeFrom ((code * 101 + getD line j 0) % 4096) (drop n line)) (sym (add-one j))
+
+pub code-two : (c d : ℕ) → (c % 4096 * 101 + d) % 4096 ≡ codeOf (c ∷ d ∷ [])
+unfolding codeFrom
+code-two c d = let e : c ≡ 0 * 101 + c = omega arith in ap (λ (n : ℕ). (n % 4096 * 101 + d) % 4096) e
+
+-- rows that differ at a place
+pub row-differs : (xs ys : List ℕ) (j : ℕ) → (getD xs j 0 ≡ getD ys j 0 → ⊥) → false ≡ sameRow xs ys
+row-differs xs ys j n = by-test (split (sameRow xs ys))
+  where
+    by-test : (sameRow xs ys ≡ true) ⊎ (sameRow xs ys ≡ false) → false ≡ sameRow xs ys
+    by-test (inl q) = absurd (n (ap (λ (l : List ℕ). getD l j 0) (same-row xs ys q)))
+    by-test (inr q) = sym q
+
+-- the first of some cells
+pub known-first : (w : List ℕ) (p arity : ℕ) → 1 ≤ arity → ((n : ℕ) → n < arity → getD w (p + n) 0 < 128) → getD w p 0 < 128
+known-first w p arity wide k = let e : p + 0 ≡ p = omega arith in subst (λ (n : ℕ). getD w n 0 < 128) e (k 0 (omega (arith, wide)))
+
+-- a row of two cells, the first of them p
+module _ (w : List ℕ) (p : ℕ) (fits : p + 2 ≤ length w) where
+  entry-first : getD (lineAt w p 2) 0 0 ≡ colourAt (drop colourStart w) (getD w p 0)
+  entry-first = let e : p + 0 ≡ p = omega arith in line-entry w p 2 fits 0 (omega arith) ∙ ap (λ (n : ℕ). colourAt (drop colourStart w) (getD w n 0)) e
+
+  entry-second : getD (lineAt w p 2) 1 0 ≡ colourAt (drop colourStart w) (getD w (p + 1) 0)
+  entry-second = line-entry w p 2 fits 1 (omega arith)
+
+  module _ (x : ℕ) (first : x ≡ colourAt (drop colourStart w) (getD w p 0)) where
+    pub two-first : (c d : ℕ) → (x ≡ c → ⊥) → false ≡ sameRow (c ∷ d ∷ []) (lineAt w p 2)
+    two-first c d n = row-differs (c ∷ d ∷ []) (lineAt w p 2) 0 (λ q. n (first ∙ sym (q ∙ entry-first)))
+
+    module _ (y : ℕ) (second : y ≡ colourAt (drop colourStart w) (getD w (p + 1) 0)) where
+      pub line-two : lineAt w p 2 ≡ x ∷ y ∷ []
+      line-two = ext-getD 0 (lineAt w p 2) (x ∷ y ∷ []) (line-length w p 2 fits) entry
+        where
+          entry : (i : ℕ) → i < length (lineAt w p 2) → getD (lineAt w p 2) i 0 ≡ getD (x ∷ y ∷ []) i 0
+          entry zero l = entry-first ∙ sym first
+          entry (suc zero) l = entry-second ∙ sym second
+          entry (suc (suc i)) l = absurd (omega (arith, l, line-length w p 2 fits))
+
+      pub two-second : (c d : ℕ) → (y ≡ d → ⊥) → false ≡ sameRow (c ∷ d ∷ []) (lineAt w p 2)
+      two-second c d n = row-differs (c ∷ d ∷ []) (lineAt w p 2) 1 (λ q. n (second ∙ sym (q ∙ entry-second)))
+
+      pub two-both : (c d : ℕ) → x ≡ c → y ≡ d → true ≡ sameRow (c ∷ d ∷ []) (lineAt w p 2)
+      two-both c d e f =
+          sym (ap (sameRow (c ∷ d ∷ [])) (line-two ∙ ap₂ (λ (m : ℕ) (n : ℕ). m ∷ n ∷ []) e f) ∙ same-row-refl (c ∷ d ∷ []))
+
+      pub two-code : (x % 4096 * 101 + y) % 4096 ≡ codeOf (lineAt w p 2)
+      two-code = code-two x y ∙ ap (codeFrom 0) (sym line-two)
 
 -- buckets
 module _ (rows code : ℕ) where
@@ -222,6 +271,7 @@ pub record Sought (w : List ℕ) (base arity rows place p b : ℕ) : Type 0 wher
   pub room : length w ≡ boardRoom
   pub wide : 1 ≤ arity
   pub fits : base + rows * arity ≤ 4096
+  pub known : (n : ℕ) → n < base + rows * arity → getD w n 0 < 128
   pub within : place < rows
   pub is-p : p ≡ base + place * arity
   pub is-b : b ≡ bucketAt rows (linesOn w base arity rows) place
@@ -244,6 +294,9 @@ module _ (w : List ℕ) (base arity rows place p b : ℕ) (s : Sought w base ari
 
   pub row-fits : p + arity ≤ 4096
   row-fits = omega (arith, s .is-p, s .fits, row-inside place rows arity (s .within))
+
+  pub row-known : (n : ℕ) → n < arity → getD w (p + n) 0 < 128
+  row-known n h = s .known (p + n) (omega (arith, h, s .is-p, row-inside place rows arity (s .within)))
 
   pub head-small : getD w (countStart + b) 0 ≤ 4096
   head-small =
@@ -296,6 +349,9 @@ module _ (w : List ℕ) (base arity rows place p b q : ℕ) (walk : Walk w base 
 
     pub at-fits : q - 1 + arity ≤ 4096
     at-fits = omega (arith, at-is, walk .given .fits, row-inside row rows arity (omega (arith, row-early, walk .given .within)))
+
+    pub at-known : (n : ℕ) → n < arity → getD w (q - 1 + n) 0 < 128
+    at-known n l = walk .given .known (q - 1 + n) (omega (arith, l, at-is, row-inside row rows arity (omega (arith, row-early, walk .given .within))))
 
     row-first : isFirst theLines row ≡ true
     row-first = last-is .first row (here .1)

@@ -133,6 +133,12 @@ module _ (cells base arity rows : ℕ) (old w : List ℕ) (at i : ℕ) (n : Numb
   same-cells : cellsOn cells w ≡ cellsOn cells old
   same-cells = cells-around cells old w (n .listed) (n .length-kept) (n .below) (λ x a b. n .above x a)
 
+  pub room-now : length w ≡ boardRoom
+  room-now = n .length-kept ∙ n .listed .room
+
+  known-now : (m : ℕ) → m < base + rows * arity → getD w m 0 < 128
+  known-now m h = omega (arith, n .below m (omega (arith, h, few)), n .listed .known m (omega (arith, h, n .fits)))
+
   pub numbered-all : rows ≤ i → NumbersAt cells base (rowNumbersAt base arity rows old) w
   numbered-all h j l =
       let e : i ≡ rows = omega (arith, h, n .within) in
@@ -157,8 +163,14 @@ module _ (cells base arity rows : ℕ) (old w : List ℕ) (at i : ℕ) (n : Numb
     pub row-room : at + arity ≤ cells
     row-room = omega (arith, n .is-at, n .fits, row-inside i rows arity h)
 
+    pub line-low : at + arity ≤ 4096
+    line-low = omega (arith, row-room, n .listed .few)
+
     pub line-room : at + arity ≤ length w
-    line-room = omega (arith, row-room, n .listed .few, n .listed .room, n .length-kept)
+    line-room = omega (arith, line-low, room-now)
+
+    pub line-known : (m : ℕ) → m < arity → getD w (at + m) 0 < 128
+    line-known m l = known-now (at + m) (omega (arith, l, n .is-at, row-inside i rows arity h))
 
     -- the bucket of the row
     module _ (code b : ℕ) (is-code : code ≡ codeOf (lineAt w at arity)) (is-b : b ≡ bucketOf rows code) where
@@ -169,9 +181,10 @@ module _ (cells base arity rows : ℕ) (old w : List ℕ) (at i : ℕ) (n : Numb
 
       pub row-sought : Sought w base arity rows i at b
       row-sought = record {
-        room = n .length-kept ∙ n .listed .room;
+        room = room-now;
         wide = n .wide;
         fits = few;
+        known = known-now;
         within = h;
         is-p = n .is-at;
         is-b = bucket-is;
@@ -195,17 +208,14 @@ module _ (cells base arity rows : ℕ) (old w : List ℕ) (at i : ℕ) (n : Numb
 
         -- it is put in its bucket
         module _ (w₁ : List ℕ) (is₁ : w₁ ≡ keptLine at first b w) where
-          room-w : length w ≡ boardRoom
-          room-w = n .length-kept ∙ n .listed .room
-
           pub long₁ : length w₁ ≡ length old
-          long₁ = ap length is₁ ∙ kept-length at first b w room-w row-low row-bucket ∙ n .length-kept
+          long₁ = ap length is₁ ∙ kept-length at first b w room-now row-low row-bucket ∙ n .length-kept
 
           below₁ : (x : ℕ) → x < countStart → getD w₁ x 0 ≡ getD w x 0
-          below₁ x l = ap (λ (t : List ℕ). getD t x 0) is₁ ∙ kept-below at first b w room-w row-low row-bucket x l
+          below₁ x l = ap (λ (t : List ℕ). getD t x 0) is₁ ∙ kept-below at first b w room-now row-low row-bucket x l
 
           above₁ : (x : ℕ) → startStart ≤ x → getD w₁ x 0 ≡ getD w x 0
-          above₁ x l = ap (λ (t : List ℕ). getD t x 0) is₁ ∙ kept-above at first b w room-w row-low row-bucket x l
+          above₁ x l = ap (λ (t : List ℕ). getD t x 0) is₁ ∙ kept-above at first b w room-now row-low row-bucket x l
 
           cells₁ : cellsOn cells w₁ ≡ cellsOn cells old
           cells₁ = cells-around cells old w₁ (n .listed) long₁ (λ x l. below₁ x (omega (arith, l)) ∙ n .below x l) (λ x l m. above₁ x l ∙ n .above x l)
@@ -218,7 +228,7 @@ module _ (cells base arity rows : ℕ) (old w : List ℕ) (at i : ℕ) (n : Numb
               subst
               (λ (t : List ℕ). Bucketed base arity rows lines t (i + 1))
               (sym is₁)
-              (bucketed-more at first b w room-w row-low row-bucket base arity rows i lines (n .wide) (omega (arith, h, lines-long old base arity rows)) (n .is-at) first-is (rw same-lines at bucket-is) (n .bucketed))
+              (bucketed-more at first b w room-now row-low row-bucket base arity rows i lines (n .wide) (omega (arith, h, lines-long old base arity rows)) (n .is-at) first-is (rw same-lines at bucket-is) (n .bucketed))
 
           -- its cells are numbered
           module _ (w₂ : List ℕ) (written : NumbersAt cells at (upFrom first arity) w₂) (s : Scattered cells at w₁ w₂) where

@@ -38,7 +38,10 @@ cast-colour-of : tie.Need-cast-colour-of Inv-loop μ-loop
 cast-colour-of c = omega (arith, known-here _ _ _ _ _ _ _ _ _ _ _ _ _ _ _ (c .before .before .before .before .before .before .loop .inv) (c .before .before .before .before .before .loop-test .taken))
 
 colour-of-requires : tie.Need-colour-of-requires Inv-loop μ-loop
-colour-of-requires c κs = tt
+colour-of-requires c κs =
+    let g = c .before .before .before .before .before .before .loop .inv in
+    let h = c .before .before .before .before .before .loop-test .taken in
+    (ready-now _ _ _ _ _ _ _ _ _ _ _ _ _ _ _ g h .listed .room, known-here _ _ _ _ _ _ _ _ _ _ _ _ _ _ _ g h)
 
 bucket-of-requires : tie.Need-bucket-of-requires Inv-loop μ-loop
 bucket-of-requires c κs = mark-few _ _ (ready-now _ _ _ _ _ _ _ _ _ _ _ _ _ _ _ (c .before .before .before .before .before .before .before .loop .inv) (c .before .before .before .before .before .before .loop-test .taken)) _ (known-here _ _ _ _ _ _ _ _ _ _ _ _ _ _ _ (c .before .before .before .before .before .before .before .loop .inv) (c .before .before .before .before .before .before .loop-test .taken)) _ (c .before .before .mark-of .ensures)

@@ -13,13 +13,13 @@ cast-colour-of : tie.Need-cast-colour-of
 cast-colour-of c = search needs
 
 colour-of-requires : tie.Need-colour-of-requires
-colour-of-requires c κs = search needs
+colour-of-requires c κs = (c .before .before .pre .0 .listed .room, c .before .before .pre .1)
 
 cast-colour-of-2 : tie.Need-cast-colour-of-2
 cast-colour-of-2 c = search needs
 
 colour-of-requires-2 : tie.Need-colour-of-requires-2
-colour-of-requires-2 c κs = search needs
+colour-of-requires-2 c κs = (c .before .before .before .before .pre .0 .listed .room, c .before .before .before .before .pre .2)
 
 same-length : tie.Need-same-length
 same-length c = search needs

@@ -7,19 +7,21 @@ use native.Mathlib.Omega.{arith}
 use borrow.Author.Needs.{needs}
 use lib.ListN.{length, getD, drop}
 use Rattle.rounds.specs.Colours.{colourAt}
-use Rattle.rounds.specs.Board.{colourStart, lineAt, codeFrom, codeOf}
+use Rattle.rounds.specs.Board.{boardRoom, colourStart, lineAt, codeFrom, codeOf}
 use Rattle.rounds.proofs.Laws.Board.{line-length, line-entry}
 use Rattle.rounds.proofs.Laws.Buckets.{code-over, code-next}
 use Rattle.rounds.proofs.numbers.code_of.Statement.{statement}
 use Rattle.rounds.proofs.numbers.code_of.Tie as tie
 
 record Coded (w : List ℕ) (p arity code j : ℕ) : Type 0 where
+  room : length w ≡ boardRoom
   fits : p + arity ≤ length w
+  known : (n : ℕ) → n < arity → getD w (p + n) 0 < 128
   small : code < 4096
   rest : codeFrom code (drop j (lineAt w p arity)) ≡ codeOf (lineAt w p arity)
 
-start : (w : List ℕ) (p arity : ℕ) → p + arity ≤ length w → Coded w p arity 0 0
-start w p arity h = record { fits = h; small = omega arith; rest = refl }
+start : (w : List ℕ) (p arity : ℕ) → length w ≡ boardRoom → p + arity ≤ 4096 → ((n : ℕ) → n < arity → getD w (p + n) 0 < 128) → Coded w p arity 0 0
+start w p arity r h k = record { room = r; fits = omega (arith, h, r); known = k; small = omega arith; rest = refl }
 
 module _ (w : List ℕ) (p arity code j : ℕ) (k : Coded w p arity code j) where
   done : arity ≤ j → code ≡ codeOf (lineAt w p arity)
@@ -27,7 +29,9 @@ module _ (w : List ℕ) (p arity code j : ℕ) (k : Coded w p arity code j) wher
 
   more : j < arity → (x : ℕ) → x ≡ colourAt (drop colourStart w) (getD w (p + j) 0) → Coded w p arity ((code * 101 + x) % 4096) (j + 1)
   more h x e = record {
+    room = k .room;
     fits = k .fits;
+    known = k .known;
     small = omega arith;
     rest =
         ap (λ (y : ℕ). codeFrom ((code * 101 + y) % 4096) (drop (j + 1) (lineAt w p arity))) (e ∙ sym (line-entry w p arity (k .fits) j h))
@@ -42,7 +46,7 @@ abbrev μ-loop : tie.MeasureT-loop
 μ-loop board p arity code₀ j₀ code j = arity - j
 
 loop-holds : tie.Need-loop-holds Inv-loop μ-loop
-loop-holds c = start _ _ _ (c .before .pre)
+loop-holds c = start _ _ _ (c .before .pre .0) (c .before .pre .1) (c .before .pre .2)
 
 add-colour-of : tie.Need-add-colour-of Inv-loop μ-loop
 add-colour-of c = omega (arith, c .before .loop .inv .fits, (c .loop-test .taken))
@@ -54,7 +58,7 @@ shared-slice-read-colour-of : tie.Need-shared-slice-read-colour-of Inv-loop μ-l
 shared-slice-read-colour-of c = let k = c .before in omega (arith, k .before .loop .inv .fits, (k .loop-test .taken))
 
 colour-of-requires : tie.Need-colour-of-requires Inv-loop μ-loop
-colour-of-requires c κs = tt
+colour-of-requires c κs = let k = c .before in (k .before .loop .inv .room, k .before .loop .inv .known _ (k .loop-test .taken))
 
 mul-code : tie.Need-mul-code Inv-loop μ-loop
 mul-code c = omega (arith, c .before .before .before .loop .inv .small)

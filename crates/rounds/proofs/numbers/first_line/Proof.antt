@@ -5,18 +5,18 @@ use mathlib.Core.Path.{_≡_}
 use mathlib.Core.List.{List}
 use native.Mathlib.Omega.{arith}
 use borrow.Author.Needs.{needs}
-use lib.ListN.{length}
+use lib.ListN.{length, getD}
 use Rattle.rounds.specs.Board.{boardRoom, linesOn, bucketAt, Bucketed}
-use Rattle.rounds.proofs.Laws.Buckets.{Sought, Walk, bucket-small, row-fits, head-small, walk-start, walk-over, at-fits, walk-less, link-small, walk-found, walk-more}
+use Rattle.rounds.proofs.Laws.Buckets.{Sought, Walk, bucket-small, row-fits, row-known, head-small, walk-start, walk-over, at-fits, at-known, walk-less, link-small, walk-found, walk-more}
 use Rattle.rounds.proofs.numbers.first_line.Statement.{statement}
 use Rattle.rounds.proofs.numbers.first_line.Tie as tie
 
 -- what the function is called with
 sought :
     (w : List ℕ) (base arity rows place p b : ℕ)
-    → (length w ≡ boardRoom) × (1 ≤ arity) × (base + rows * arity ≤ 4096) × (place < rows) × (p ≡ base + place * arity) × (b ≡ bucketAt rows (linesOn w base arity rows) place) × Bucketed base arity rows (linesOn w base arity rows) w place
+    → (length w ≡ boardRoom) × (1 ≤ arity) × (base + rows * arity ≤ 4096) × ((n : ℕ) → n < base + rows * arity → getD w n 0 < 128) × (place < rows) × (p ≡ base + place * arity) × (b ≡ bucketAt rows (linesOn w base arity rows) place) × Bucketed base arity rows (linesOn w base arity rows) w place
     → Sought w base arity rows place p b
-sought w base arity rows place p b s = record { room = s .0; wide = s .1; fits = s .2; within = s .3; is-p = s .4; is-b = s .5; bucketed = s .6 }
+sought w base arity rows place p b s = record { room = s .0; wide = s .1; fits = s .2; known = s .3; within = s .4; is-p = s .5; is-b = s .6; bucketed = s .7 }
 
 abbrev Inv-loop : tie.InvT-loop
 Inv-loop board base arity rows place p bucket q₀ q = Walk board base arity rows place p bucket q
@@ -43,7 +43,9 @@ sub-at : tie.Need-sub-at Inv-loop μ-loop
 sub-at c = search needs
 
 same-line-requires : tie.Need-same-line-requires Inv-loop μ-loop
-same-line-requires c κs = (omega (arith, row-fits _ _ _ _ _ _ _ (c .before .loop .inv .given), c .before .loop .inv .given .room), omega (arith, at-fits _ _ _ _ _ _ _ _ (c .before .loop .inv) (c .loop-test .taken), c .before .loop .inv .given .room))
+same-line-requires c κs =
+    let i = c .before .loop .inv in
+    (i .given .room, row-fits _ _ _ _ _ _ _ (i .given), row-known _ _ _ _ _ _ _ (i .given), at-fits _ _ _ _ _ _ _ _ i (c .loop-test .taken), at-known _ _ _ _ _ _ _ _ i (c .loop-test .taken))
 
 returns : tie.Need-returns Inv-loop μ-loop
 returns c =

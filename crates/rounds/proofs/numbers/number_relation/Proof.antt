@@ -1,7 +1,7 @@
--- `rounds::numbers::number_relation` meets its contract: its rows are numbered by buckets, and the heads of these emptied again; where it has no columns there are no cells. Assumes nothing.
+-- `rounds::numbers::number_relation` meets its contract: its rows are numbered by buckets, those of two cells by a way of their own, and the heads of these emptied again; where it has no columns there are no cells. Assumes nothing.
 use Prim.Native.Nat.{ℕ, _+_, _-_, _*_, _<_, _≤_}
-use mathlib.Core.Path.{_≡_, refl, sym, _∙_, ap}
-use mathlib.Core.Logic.{by-cases}
+use mathlib.Core.Path.{_≡_, refl, sym, _∙_, ap, subst}
+use mathlib.Core.Logic.{⊎-elim, by-cases}
 use mathlib.Core.List.{List}
 use native.Mathlib.Omega.{arith}
 use native.Mathlib.Decide.{decLe}
@@ -68,29 +68,57 @@ module _ (cells base arity rows : ℕ) (old : List ℕ) (listed : Listed cells o
         numbers-kept = λ c h. k .below (numberStart + positionOf (cellsOn cells old) c) (place-low c (omega (arith, h, fits))) ∙ b .numbers-kept c h;
       }
 
+-- what numbering the rows gives
+abbrev Numbered : ℕ → ℕ → ℕ → ℕ → List ℕ → List ℕ → Type 0
+Numbered cells base arity rows old w = NumbersAt cells base (rowNumbersAt base arity rows old) w × Bucketing cells base (bucketsFor rows) old w
+
+numbered-as : (cells base arity width rows : ℕ) (old w v : List ℕ) → arity ≡ width → v ≡ w → Numbered cells base width rows old w → Numbered cells base arity rows old v
+numbered-as cells base arity width rows old w v e f d =
+    subst (λ (t : List ℕ). Numbered cells base arity rows old t) (sym f) (subst (λ (n : ℕ). Numbered cells base n rows old w) (sym e) d)
+
+fits-two : (cells base arity rows : ℕ) → arity ≡ 2 → base + rows * arity ≤ cells → base + rows * 2 ≤ cells
+fits-two cells base arity rows e h = subst (λ (n : ℕ). base + rows * n ≤ cells) e h
+
 buckets-for-requires : tie.Need-buckets-for-requires
 buckets-for-requires c κs = tt
 
+number-twos-requires : tie.Need-number-twos-requires
+number-twos-requires c κs =
+    let a = c .before .before .before .before .before .args in
+    let p = c .before .before .before .before .before .pre in
+    (p .0, fits-two (a .cells) (a .base) (a .arity) (a .rows) (c .before .if2 .taken) (p .1), p .2)
+
 number-rows-requires : tie.Need-number-rows-requires
-number-rows-requires c κs = let p = c .before .before .before .before .pre in (p .0, p .1, (c .before .before .if1 .taken), p .2)
+number-rows-requires c κs = let p = c .before .before .before .before .before .pre in (p .0, p .1, c .before .before .before .if1 .taken, p .2)
 
 clear-heads-requires : tie.Need-clear-heads-requires
 clear-heads-requires c κs =
-    let p = c .before .before .before .before .before .before .before .before .pre in
-    let b = c .before .before .before .before .before .buckets-for .ensures in
-    let r = c .before .before .before .number-rows .ensures in
-    (long _ _ _ _ _ (p .0) _ b (p .1) (p .2) _ (r .1), few _ _ _ _ _ (p .0) _ b (p .1) (p .2) _ (r .1))
+    let a = c .before .before .before .before .before .args in
+    let p = c .before .before .before .before .before .pre in
+    let r : Numbered (a .cells) (a .base) (a .arity) (a .rows) (a .board .now) (c .before .if2 .board) =
+    ⊎-elim (λ w. numbered-as _ _ _ _ _ _ _ _ (w .0 .taken) (w .5) (w .2 .ensures)) (λ w. numbered-as _ _ _ _ _ _ _ _ refl (w .5) (w .2 .ensures)) (c .before .if2 .came)
+    in
+    let e = c .before .before .buckets-for .ensures in
+    (long _ _ _ _ _ (p .0) _ e (p .1) (p .2) _ (r .1), few _ _ _ _ _ (p .0) _ e (p .1) (p .2) _ (r .1))
 
 same-length : tie.Need-same-length
-same-length c = c .before .before .clear-heads .ensures .length-kept ∙ c .before .before .before .before .before .before .number-rows .ensures .1 .length-kept
+same-length c =
+    let a = c .before .before .before .before .before .before .before .before .args in
+    let r : Numbered (a .cells) (a .base) (a .arity) (a .rows) (a .board .now) (c .before .before .before .before .if2 .board) =
+    ⊎-elim (λ w. numbered-as _ _ _ _ _ _ _ _ (w .0 .taken) (w .5) (w .2 .ensures)) (λ w. numbered-as _ _ _ _ _ _ _ _ refl (w .5) (w .2 .ensures)) (c .before .before .before .before .if2 .came)
+    in
+    c .before .before .clear-heads .ensures .length-kept ∙ r .1 .length-kept
 
 returns : tie.Need-returns
 returns c =
-    let p = c .before .before .before .before .before .before .before .before .before .before .before .pre in
-    let b = c .before .before .before .before .before .before .before .before .buckets-for .ensures in
-    let r = c .before .before .before .before .before .before .number-rows .ensures in
+    let a = c .before .before .before .before .before .before .before .before .args in
+    let p = c .before .before .before .before .before .before .before .before .pre in
+    let r : Numbered (a .cells) (a .base) (a .arity) (a .rows) (a .board .now) (c .before .before .before .before .if2 .board) =
+    ⊎-elim (λ w. numbered-as _ _ _ _ _ _ _ _ (w .0 .taken) (w .5) (w .2 .ensures)) (λ w. numbered-as _ _ _ _ _ _ _ _ refl (w .5) (w .2 .ensures)) (c .before .before .before .before .if2 .came)
+    in
+    let e = c .before .before .before .before .before .buckets-for .ensures in
     let h = c .before .before .clear-heads .ensures in
-    (numbered _ _ _ _ _ (p .0) _ b (p .1) (p .2) _ (r .1) _ h (r .0), renumbered _ _ _ _ _ (p .0) _ b (p .1) (p .2) _ (r .1) _ h)
+    (numbered _ _ _ _ _ (p .0) _ e (p .1) (p .2) _ (r .1) _ h (r .0), renumbered _ _ _ _ _ (p .0) _ e (p .1) (p .2) _ (r .1) _ h)
 
 returns-2 : tie.Need-returns-2
 returns-2 c = (no-numbers _ _ _ _ _ (c .before .before .pre .0) (c .if1 .left), unchanged _ _ _ (c .before .before .args .rows) _ (c .before .before .pre .0) (c .if1 .left))
@@ -100,6 +128,7 @@ number-relation-spec =
     tie.close
     (tie.spec
     buckets-for-requires
+    number-twos-requires
     number-rows-requires
     clear-heads-requires
     same-length

@@ -3,7 +3,7 @@
 use Prim.Native.Nat.{_-_}
 use native.Mathlib.Omega.{arith}
 use borrow.Author.Needs.{needs}
-use Rattle.rounds.proofs.Laws.Numbers.{NumberedTo, numbered-none, numbered-all, numbered-kept, row-room, line-room, row-sought, row-bucket, row-low, first-small, listed₁, numbered-more}
+use Rattle.rounds.proofs.Laws.Numbers.{NumberedTo, numbered-none, numbered-all, numbered-kept, row-room, room-now, line-low, line-known, row-sought, row-bucket, row-low, first-small, listed₁, numbered-more}
 use Rattle.rounds.proofs.numbers.number_rows.Statement.{statement}
 use Rattle.rounds.proofs.numbers.number_rows.Tie as tie
 
@@ -17,7 +17,9 @@ loop-holds : tie.Need-loop-holds Inv-loop μ-loop
 loop-holds c = numbered-none _ _ _ _ _ (c .before .pre .0) (c .before .pre .1) (c .before .pre .2) (c .before .pre .3)
 
 code-of-requires : tie.Need-code-of-requires Inv-loop μ-loop
-code-of-requires c κs = let k = c .before in line-room _ _ _ _ _ _ _ _ (k .before .loop .inv) (k .loop-test .taken)
+code-of-requires c κs =
+    let k = c .before in
+    (room-now _ _ _ _ _ _ _ _ (k .before .loop .inv), line-low _ _ _ _ _ _ _ _ (k .before .loop .inv) (k .loop-test .taken), line-known _ _ _ _ _ _ _ _ (k .before .loop .inv) (k .loop-test .taken))
 
 bucket-of-requires : tie.Need-bucket-of-requires Inv-loop μ-loop
 bucket-of-requires c κs = tt
@@ -28,7 +30,7 @@ first-line-requires c κs =
     let d = c .before .before .code-of .ensures in
     let e = c .before .bucket-of .ensures in
     let s = row-sought _ _ _ _ _ _ _ _ (k .before .loop .inv) (k .loop-test .taken) _ _ d e in
-    (s .room, s .wide, s .fits, s .within, s .is-p, s .is-b, s .bucketed)
+    (s .room, s .wide, s .fits, s .known, s .within, s .is-p, s .is-b, s .bucketed)
 
 keep-line-requires : tie.Need-keep-line-requires Inv-loop μ-loop
 keep-line-requires c κs =

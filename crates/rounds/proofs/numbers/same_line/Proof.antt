@@ -13,19 +13,31 @@ use Rattle.lists.specs.Order.{sameRow}
 use Rattle.lists.proofs.Laws.Every.{PairsFrom, pairs-from, pairs-passed, pairs-failed, pairs-over}
 use Rattle.lists.proofs.Laws.Order.{rows-same}
 use Rattle.rounds.specs.Colours.{colourAt}
-use Rattle.rounds.specs.Board.{colourStart, lineAt}
+use Rattle.rounds.specs.Board.{boardRoom, colourStart, lineAt}
 use Rattle.rounds.proofs.Laws.Board.{line-length, line-entry}
 use Rattle.rounds.proofs.numbers.same_line.Statement.{statement}
 use Rattle.rounds.proofs.numbers.same_line.Tie as tie
 
 record Agree (w : List ℕ) (p q arity j : ℕ) : Type 0 where
+  pub room : length w ≡ boardRoom
   pub first : p + arity ≤ length w
+  pub first-known : (n : ℕ) → n < arity → getD w (p + n) 0 < 128
   pub second : q + arity ≤ length w
+  pub second-known : (n : ℕ) → n < arity → getD w (q + n) 0 < 128
   pub from : PairsFrom eqb (lineAt w p arity) (lineAt w q arity) j
 
 module _ (w : List ℕ) (p q arity : ℕ) where
-  start : p + arity ≤ length w → q + arity ≤ length w → Agree w p q arity 0
-  start h k = record { first = h; second = k; from = pairs-from eqb _ _ (line-length w p arity h ∙ sym (line-length w q arity k)) }
+  start :
+      length w ≡ boardRoom → p + arity ≤ length w → ((n : ℕ) → n < arity → getD w (p + n) 0 < 128) → q + arity ≤ length w → ((n : ℕ) → n < arity → getD w (q + n) 0 < 128)
+      → Agree w p q arity 0
+  start r h a k b = record {
+    room = r;
+    first = h;
+    first-known = a;
+    second = k;
+    second-known = b;
+    from = pairs-from eqb _ _ (line-length w p arity h ∙ sym (line-length w q arity k));
+  }
 
   module _ (j : ℕ) (i : Agree w p q arity j) where
     done : arity ≤ j → true ≡ sameRow (lineAt w p arity) (lineAt w q arity)
@@ -45,7 +57,14 @@ module _ (w : List ℕ) (p q arity : ℕ) where
       stop n = pairs-failed (i .from) 0 0 inside (ne-eqb _ _ (λ d. n (sym left ∙ d ∙ right))) ∙ sym (rows-same _ _)
 
       more : x ≡ y → Agree w p q arity (j + 1)
-      more d = record { first = i .first; second = i .second; from = pairs-passed (i .from) 0 0 inside (eq-eqb _ _ (left ∙ d ∙ sym right)) }
+      more d = record {
+        room = i .room;
+        first = i .first;
+        first-known = i .first-known;
+        second = i .second;
+        second-known = i .second-known;
+        from = pairs-passed (i .from) 0 0 inside (eq-eqb _ _ (left ∙ d ∙ sym right));
+      }
 
 abbrev Inv-loop : tie.InvT-loop
 Inv-loop board p q arity j₀ j = Agree board p q arity j
@@ -54,7 +73,7 @@ abbrev μ-loop : tie.MeasureT-loop
 μ-loop board p q arity j₀ j = arity - j
 
 loop-holds : tie.Need-loop-holds Inv-loop μ-loop
-loop-holds c = start _ _ _ _ (c .before .pre .0) (c .before .pre .1)
+loop-holds c = let p = c .before .pre in start _ _ _ _ (p .0) (omega (arith, p .0, p .1)) (p .2) (omega (arith, p .0, p .3)) (p .4)
 
 add-colour-of : tie.Need-add-colour-of Inv-loop μ-loop
 add-colour-of c = omega (arith, c .before .loop .inv .first, c .loop-test .taken)
@@ -66,7 +85,7 @@ shared-slice-read-colour-of : tie.Need-shared-slice-read-colour-of Inv-loop μ-l
 shared-slice-read-colour-of c = omega (arith, c .before .before .loop .inv .first, c .before .loop-test .taken)
 
 colour-of-requires : tie.Need-colour-of-requires Inv-loop μ-loop
-colour-of-requires c κs = tt
+colour-of-requires c κs = (c .before .before .loop .inv .room, c .before .before .loop .inv .first-known _ (c .before .loop-test .taken))
 
 add-colour-of-2 : tie.Need-add-colour-of-2 Inv-loop μ-loop
 add-colour-of-2 c = search needs
@@ -78,7 +97,7 @@ shared-slice-read-colour-of-2 : tie.Need-shared-slice-read-colour-of-2 Inv-loop 
 shared-slice-read-colour-of-2 c = search needs
 
 colour-of-requires-2 : tie.Need-colour-of-requires-2 Inv-loop μ-loop
-colour-of-requires-2 c κs = tt
+colour-of-requires-2 c κs = let k = c .before .before .before in (k .before .loop .inv .room, k .before .loop .inv .second-known _ (k .loop-test .taken))
 
 returns : tie.Need-returns Inv-loop μ-loop
 returns c =
