@@ -12,6 +12,7 @@ pub mod Tables
 pub mod Segments
 pub mod Keys
 pub mod Holders
+pub mod Lone
 pub mod Grouping
 pub mod Places
 pub mod Numbered

@@ -75,7 +75,7 @@ fn clear_counts(board: &mut [u16], from: usize, end: usize)
     }
 }
 
-// The mark of an element: the sum of the cubes of its numbers, the same for elements of one key.
+// The mark of an element: the sum of the cubes of its numbers, each with one more; the same for elements of one key, and 0 for an element with no places.
 pub(crate) fn mark_of(board: &[u16], cells: usize, x: usize) -> u64
     requires { ⌜ Ready cells (now board) × (x < 128) ⌝ }
     ensures { λ r. ⌜ r ≡ markOn cells (now (board .entry)) x ⌝ }
@@ -85,7 +85,7 @@ pub(crate) fn mark_of(board: &[u16], cells: usize, x: usize) -> u64
     let mut i = board[STARTS + x] as usize;
     while i < end {
         let n = board[NUMBERS + i] as u64;
-        sum += n * n * n;
+        sum += n * n * n + 1;
         i += 1;
     }
     sum

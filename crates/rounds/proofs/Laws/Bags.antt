@@ -26,14 +26,18 @@ pub mark-none : markOfNumbers [] ≡ 0
 unfolding markOfNumbers
 mark-none = refl
 
-pub mark-more : (n : ℕ) (ns : List ℕ) → markOfNumbers (n ∷ ns) ≡ n * n * n + markOfNumbers ns
+pub mark-more : (n : ℕ) (ns : List ℕ) → markOfNumbers (n ∷ ns) ≡ n * n * n + 1 + markOfNumbers ns
 unfolding markOfNumbers
 mark-more n ns = refl
+
+pub mark-zero : (ns : List ℕ) → markOfNumbers ns ≡ 0 → ns ≡ []
+mark-zero [] h = refl
+mark-zero (n ∷ ns) h = absurd (omega (arith, h, mark-more n ns))
 
 -- a list with a number taken out once
 record Without (n : ℕ) (q : List ℕ) : Type 0 where
   pub rest : List ℕ
-  pub mark : markOfNumbers q ≡ n * n * n + markOfNumbers rest
+  pub mark : markOfNumbers q ≡ n * n * n + 1 + markOfNumbers rest
   pub long : length q ≡ suc (length rest)
   pub same : howMany (eqb n) q ≡ suc (howMany (eqb n) rest)
   pub other : (m : ℕ) → (m ≡ n → ⊥) → howMany (eqb m) q ≡ howMany (eqb m) rest
@@ -45,7 +49,7 @@ without n (m ∷ q) h = by-cases (ℕ-discrete n m) here (λ d. there d (without
     here : n ≡ m → Without n (m ∷ q)
     here e = record {
       rest = q;
-      mark = mark-more m q ∙ ap (λ (k : ℕ). k * k * k + markOfNumbers q) (sym e);
+      mark = mark-more m q ∙ ap (λ (k : ℕ). k * k * k + 1 + markOfNumbers q) (sym e);
       long = refl;
       same = howMany-yes (eqb n) m q (eq-eqb n m e);
       other = λ k d. count-other k m q (λ z. d (z ∙ sym e));
@@ -85,7 +89,7 @@ counts-mark [] [] e = refl
 counts-mark [] (m ∷ q) e = absurd (omega (arith, e m, howMany-none (eqb m), count-same m q))
 counts-mark (n ∷ p) q e =
     let w = without n q (omega (arith, e n, count-same n p)) in
-    mark-more n p ∙ ap (λ (k : ℕ). n * n * n + k) (counts-mark p (w .rest) (less-counts n p q w e)) ∙ sym (w .mark)
+    mark-more n p ∙ ap (λ (k : ℕ). n * n * n + 1 + k) (counts-mark p (w .rest) (less-counts n p q w e)) ∙ sym (w .mark)
 
 -- and one length
 pub counts-length : (p q : List ℕ) → ((n : ℕ) → howMany (eqb n) p ≡ howMany (eqb n) q) → length p ≡ length q
@@ -129,6 +133,6 @@ cube-small n h =
     let l : n ≤ 4095 = omega (arith, h) in
     mul-le-mul (mul-le-mul l l) l
 
-pub mark-small : (p : List ℕ) → ((i : ℕ) → i < length p → getD p i 0 < 4096) → markOfNumbers p ≤ length p * 68669157375
+pub mark-small : (p : List ℕ) → ((i : ℕ) → i < length p → getD p i 0 < 4096) → markOfNumbers p ≤ length p * 68669157376
 mark-small [] h = omega (arith, mark-none)
 mark-small (n ∷ p) h = omega (arith, mark-more n p, cube-small n (h 0 (omega arith)), mark-small p (λ i k. h (suc i) (omega (arith, k))))

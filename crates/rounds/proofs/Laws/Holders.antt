@@ -8,31 +8,31 @@ use native.Mathlib.Omega.{arith}
 use native.Mathlib.Nat.{mod-lt}
 use native.Mathlib.Numerals.{add-one}
 use native.Mathlib.Decide.{decLe, ℕ-discrete}
-use borrow.Author.Tests.{eq-eqb, ne-eqb, eqb-true, eqb-false}
+use borrow.Author.Tests.{eq-eqb, ne-eqb, eqb-true, eqb-false, lt-ltb, le-ltb}
 use lib.Dec.{eqb}
 use lib.ListN.{length, getD, take, set, length-set}
 use lib.Seq.{getD-set-same, getD-set-other, getD-take, length-take-le}
 use Rattle.lists.specs.First.{firstAt}
 use Rattle.lists.proofs.Laws.Tests.{split, clash}
 use Rattle.lists.proofs.Laws.First.{firstAt-within, firstAt-passes, firstAt-some}
-use Rattle.rounds.specs.Board.{markOn, markBucket, bucketOn, lastBelow, lastHolder, alikeOn, Ready, Chained}
+use Rattle.rounds.specs.Board.{markOn, markBucket, bucketOn, lastBelow, lastHolder, heldCount, alikeOn, Ready, Chained}
 use Rattle.rounds.proofs.Laws.Keys.{alike-sym, alike-trans, buckets-tell}
 
 -- the last that passes
 module _ (t : ℕ → Bool) where
-  last-none : lastBelow t 0 ≡ 0
+  pub last-none : lastBelow t 0 ≡ 0
   unfolding lastBelow
   last-none = refl
 
-  last-yes : (n : ℕ) → t n ≡ true → lastBelow t (suc n) ≡ suc n
+  pub last-yes : (n : ℕ) → t n ≡ true → lastBelow t (suc n) ≡ suc n
   unfolding lastBelow
   last-yes n e = rw (e, lastBelow) refl
 
-  last-no : (n : ℕ) → t n ≡ false → lastBelow t (suc n) ≡ lastBelow t n
+  pub last-no : (n : ℕ) → t n ≡ false → lastBelow t (suc n) ≡ lastBelow t n
   unfolding lastBelow
   last-no n e = rw (e, lastBelow) refl
 
-  last-low : (n : ℕ) → lastBelow t n ≤ n
+  pub last-low : (n : ℕ) → lastBelow t n ≤ n
   last-low zero = omega (arith, last-none)
   last-low (suc n) = by-test (split (t n)) (last-low n)
     where
@@ -40,7 +40,7 @@ module _ (t : ℕ → Bool) where
       by-test (inl e) ih = omega (arith, last-yes n e)
       by-test (inr e) ih = omega (arith, last-no n e, ih)
 
-  last-passes : (n i : ℕ) → lastBelow t n ≡ suc i → t i ≡ true
+  pub last-passes : (n i : ℕ) → lastBelow t n ≡ suc i → t i ≡ true
   last-passes zero i h = absurd (omega (arith, h, last-none))
   last-passes (suc n) i h = by-test (split (t n)) (last-passes n i)
     where
@@ -48,7 +48,7 @@ module _ (t : ℕ → Bool) where
       by-test (inl e) ih = let q : i ≡ n = omega (arith, h, last-yes n e) in ap t q ∙ e
       by-test (inr e) ih = ih (sym (last-no n e) ∙ h)
 
-  last-above : (n j : ℕ) → lastBelow t n ≤ j → j < n → t j ≡ false
+  pub last-above : (n j : ℕ) → lastBelow t n ≤ j → j < n → t j ≡ false
   last-above zero j h k = absurd (omega (arith, k))
   last-above (suc n) j h k = by-test (split (t n)) (last-above n j)
     where
@@ -59,7 +59,7 @@ module _ (t : ℕ → Bool) where
           below : (j ≡ n → ⊥) → j < n
           below d = by-cases (decLe n j) (λ u. absurd (d (omega (arith, u, k)))) (λ u. omega (arith, u))
 
-last-agree : (t s : ℕ → Bool) (n : ℕ) → ((j : ℕ) → j < n → t j ≡ s j) → lastBelow t n ≡ lastBelow s n
+pub last-agree : (t s : ℕ → Bool) (n : ℕ) → ((j : ℕ) → j < n → t j ≡ s j) → lastBelow t n ≡ lastBelow s n
 last-agree t s zero h = last-none t ∙ sym (last-none s)
 last-agree t s (suc n) h = by-test (split (t n)) (last-agree t s n (λ j k. h j (omega (arith, k))))
   where
@@ -77,6 +77,22 @@ bucket-low mark colour bucket e = omega (arith, e, bucket-few mark colour)
 pub bucket-is : (mark colour : ℕ) → (mark * 40503 / 65536 + colour) % 256 ≡ markBucket mark colour
 unfolding markBucket
 bucket-is mark colour = refl
+
+-- how many holders there are after one more element
+pub count-known : (i count : ℕ) → i < count → heldCount i count ≡ count
+unfolding heldCount
+count-known i count h = rw (lt-ltb i count h, heldCount) refl
+
+pub count-new : (i count : ℕ) → count ≤ i → heldCount i count ≡ count + 1
+unfolding heldCount
+count-new i count h = rw (le-ltb i count h, heldCount) refl
+
+pub count-small : (i count : ℕ) → heldCount i count ≤ count + 1
+count-small i count = by-cases (decLe count i) (λ l. omega (arith, count-new i count l)) (λ l. omega (arith, count-known i count (omega (arith, l))))
+
+pub chained-as :
+    (cells : ℕ) (w holders marks heads links : List ℕ) (count count' : ℕ) → count' ≡ count → Chained cells w holders marks heads links count → Chained cells w holders marks heads links count'
+chained-as cells w holders marks heads links count count' e k = rw e k
 
 -- no holders at all
 pub chained-none :
@@ -106,14 +122,17 @@ module _ (cells : ℕ) (w holders marks heads links : List ℕ) (count : ℕ) (k
   entry : (i : ℕ) → i < count → getD (take count holders) i 0 ≡ getD holders i 0
   entry i h = getD-take count holders i 0 h
 
-  none-first : ((j : ℕ) → j < count → alike (getD holders j 0) ≡ false) → count ≡ firstAt alike (take count holders)
+  pub found-low : (i : ℕ) → i ≡ firstAt alike (take count holders) → i ≤ count
+  found-low i e = omega (arith, e, firstAt-within alike (take count holders), taken-long)
+
+  pub none-first : ((j : ℕ) → j < count → alike (getD holders j 0) ≡ false) → count ≡ firstAt alike (take count holders)
   none-first h = by-cases (decLe count (firstAt alike (take count holders))) (λ l. omega (arith, l, firstAt-within alike (take count holders), taken-long)) (λ l. absurd (some (omega (arith, l))))
     where
       some : firstAt alike (take count holders) < count → ⊥
       some l =
           clash (ap alike (sym (entry (firstAt alike (take count holders)) l)) ∙ firstAt-passes alike 0 (take count holders) (omega (arith, l, taken-long))) (h (firstAt alike (take count holders)) l)
 
-  one-first : (i : ℕ) → i < count → alike (getD holders i 0) ≡ true → i ≡ firstAt alike (take count holders)
+  pub one-first : (i : ℕ) → i < count → alike (getD holders i 0) ≡ true → i ≡ firstAt alike (take count holders)
   one-first i h e =
       let f = firstAt alike (take count holders) in
       let l : firstAt alike (take count holders) ≤ i = firstAt-some alike 0 (take count holders) i (omega (arith, h, taken-long)) (ap alike (entry i h) ∙ e) in

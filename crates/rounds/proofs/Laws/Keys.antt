@@ -18,7 +18,7 @@ use Rattle.lists.proofs.Laws.Part.{getD-part}
 use Rattle.lists.proofs.Laws.Counting.{howMany-some}
 use Rattle.rounds.specs.Colours.{colourAt}
 use Rattle.rounds.specs.Board.{numberStart, countStart, linkStart, startStart, sameNumbers, cellsOn, coloursOn, startOf, placesOn, segment, alikeOn, markOn, markBucket, bucketOn, Segment, Empty, Counts, OnlyTable, Ready}
-use Rattle.rounds.proofs.Laws.Bags.{counts-mark, counts-length, even-counts, numbers-counts, counts-numbers}
+use Rattle.rounds.proofs.Laws.Bags.{mark-zero, counts-mark, counts-length, even-counts, numbers-counts, counts-numbers}
 use Rattle.rounds.proofs.Laws.Tables.{segment-long, segment-entries}
 use Rattle.rounds.proofs.Laws.Segments.{segment-of, segment-is}
 
@@ -132,7 +132,7 @@ module _ (cells : ℕ) (w : List ℕ) (x y own other : ℕ) (e : own ≡ colourA
 
 -- alike exactly where the colours are and each number stands as often
 module _ (cells : ℕ) (w : List ℕ) (x y : ℕ) where
-  alike-colour : alikeOn cells w x y ≡ true → colourAt (coloursOn w) x ≡ colourAt (coloursOn w) y
+  pub alike-colour : alikeOn cells w x y ≡ true → colourAt (coloursOn w) x ≡ colourAt (coloursOn w) y
   unfolding alikeOn
   alike-colour h = go (split (eqb (colourAt (coloursOn w) x) (colourAt (coloursOn w) y)))
     where
@@ -151,6 +151,10 @@ module _ (cells : ℕ) (w : List ℕ) (x y : ℕ) where
 
   pub alike-bucket : alikeOn cells w x y ≡ true → bucketOn cells w x ≡ bucketOn cells w y
   alike-bucket h = ap₂ markBucket (alike-mark h) (alike-colour h)
+
+  -- with no places the colour decides
+  pub lone-alike : markOn cells w x ≡ 0 → markOn cells w y ≡ 0 → colourAt (coloursOn w) x ≡ colourAt (coloursOn w) y → alikeOn cells w x y ≡ true
+  lone-alike h k e = make-alike e (λ n. ap (howMany (eqb n)) (mark-zero _ h ∙ sym (mark-zero _ k)))
 
   pub marks-tell : (markOn cells w x ≡ markOn cells w y → ⊥) → false ≡ alikeOn cells w x y
   marks-tell d = go (split (alikeOn cells w x y))

@@ -207,11 +207,11 @@ module _ (w : List ℕ) (from end sum i : ℕ) (k : Summing w from end sum i) wh
     pub sum-small : getD w (numberStart + i) 0 < 4096
     sum-small = k .on .low i (k .low) h
 
-    here : markOfNumbers (segment i end w) ≡ getD w (numberStart + i) 0 * getD w (numberStart + i) 0 * getD w (numberStart + i) 0 + markOfNumbers (segment (i + 1) end w)
+    here : markOfNumbers (segment i end w) ≡ getD w (numberStart + i) 0 * getD w (numberStart + i) 0 * getD w (numberStart + i) 0 + 1 + markOfNumbers (segment (i + 1) end w)
     here = ap markOfNumbers (segment-here i end w h sum-room) ∙ mark-more (getD w (numberStart + i) 0) (segment (i + 1) end w)
 
-    pub sum-fits : sum + getD w (numberStart + i) 0 * getD w (numberStart + i) 0 * getD w (numberStart + i) 0 < markEnd
+    pub sum-fits : sum + (getD w (numberStart + i) 0 * getD w (numberStart + i) 0 * getD w (numberStart + i) 0 + 1) < markEnd
     sum-fits = omega (arith, here, k .summed, segment-mark from end w (k .on))
 
-    pub summing-more : Summing w from end (sum + getD w (numberStart + i) 0 * getD w (numberStart + i) 0 * getD w (numberStart + i) 0) (i + 1)
+    pub summing-more : Summing w from end (sum + (getD w (numberStart + i) 0 * getD w (numberStart + i) 0 * getD w (numberStart + i) 0 + 1)) (i + 1)
     summing-more = record { on = k .on; low = omega (arith, k .low); summed = omega (arith, here, k .summed) }

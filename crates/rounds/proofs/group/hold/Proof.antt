@@ -2,12 +2,12 @@
 use native.Mathlib.Omega.{arith}
 use borrow.Author.Needs.{needs}
 use Rattle.rounds.proofs.Laws.Grouping.{hold-known, hold-new}
-use Rattle.rounds.proofs.Laws.Holders.{chained-new}
+use Rattle.rounds.proofs.Laws.Holders.{count-known, count-new, chained-as, chained-new}
 use Rattle.rounds.proofs.group.hold.Statement.{statement}
 use Rattle.rounds.proofs.group.hold.Tie as tie
 
 returns : tie.Need-returns
-returns c = let p = c .before .pre in ((λ cells w k _ _ _ _. k), (hold-known _ _ _ _ (omega (arith, p .0, p .4)) (c .if1 .taken), (omega arith, omega arith)))
+returns c = let p = c .before .pre in ((λ cells w k _ _ _ _. chained-as _ _ _ _ _ _ _ _ (count-known _ _ (c .if1 .taken)) k), hold-known _ _ _ _ (omega (arith, p .0, p .4)) (c .if1 .taken))
 
 mul-holders : tie.Need-mul-holders
 mul-holders c = search needs
@@ -45,9 +45,6 @@ mul-heads c = search needs
 slice-write-heads : tie.Need-slice-write-heads
 slice-write-heads c = let p = c .before .before .pre in omega (arith, p .2, p .6)
 
-add-result : tie.Need-add-result
-add-result c = search needs
-
 same-length : tie.Need-same-length
 same-length c = search needs
 
@@ -63,7 +60,7 @@ same-length-4 c = search needs
 returns-2 : tie.Need-returns-2
 returns-2 c =
     let p = c .before .before .pre in
-    ((λ cells w k h m b f. chained-new _ _ _ _ _ _ _ k _ _ _ (p .4) h m b (omega (arith, f, c .before .if1 .left))), (hold-new _ _ _ _ (omega (arith, p .0, p .4)) (c .before .if1 .left), (omega arith, omega arith)))
+    ((λ cells w k h m b f. chained-as _ _ _ _ _ _ _ _ (count-new _ _ (c .before .if1 .left)) (chained-new _ _ _ _ _ _ _ k _ _ _ (p .4) h m b (omega (arith, f, c .before .if1 .left)))), hold-new _ _ _ _ (omega (arith, p .0, p .4)) (c .before .if1 .left))
 
 pub hold-spec : {M : Type 1} → statement M
 hold-spec =
@@ -82,7 +79,6 @@ hold-spec =
     cast-heads
     mul-heads
     slice-write-heads
-    add-result
     same-length
     same-length-2
     same-length-3

@@ -76,6 +76,9 @@ mul-sum-2 c = omega (arith, sum-fits _ _ _ _ _ (c .before .before .loop .inv .su
 add-sum : tie.Need-add-sum Inv-loop μ-loop
 add-sum c = omega (arith, sum-fits _ _ _ _ _ (c .before .before .loop .inv .sums) (c .before .loop-test .taken))
 
+add-sum-2 : tie.Need-add-sum-2 Inv-loop μ-loop
+add-sum-2 c = omega (arith, sum-fits _ _ _ _ _ (c .before .before .loop .inv .sums) (c .before .loop-test .taken))
+
 add-i-2 : tie.Need-add-i-2 Inv-loop μ-loop
 add-i-2 c = search needs
 
@@ -107,6 +110,7 @@ mark-of-spec =
     mul-sum
     mul-sum-2
     add-sum
+    add-sum-2
     add-i-2
     loop-less
     loop-again
