@@ -1,6 +1,5 @@
 // Classes of one colour: the smallest that is open, the lowest element of one.
 ghost use mathlib.Core.Path.{_≡_};
-ghost use mathlib.Core.Bool.{true};
 ghost use mathlib.Core.List.{List};
 ghost use Prim.Native.Nat.{ℕ, _≤_};
 ghost use lib.ListN.{length};
@@ -10,11 +9,10 @@ ghost use Rattle.stored.specs.Model.{size};
 ghost use Rattle.stored.specs.Reading.{Reads, modelOf};
 ghost use Rattle.rounds.specs.Round.{reps, coloursOf};
 ghost use Rattle.rounds.specs.Classes.{openOf, smallestFrom, smallestOpen, lowestOf};
-ghost use Rattle.rounds.specs.Parts.{repsIn, coloursIn, areSmall, CountsOf, hasColour, smallestWith};
+ghost use Rattle.rounds.specs.Parts.{repsIn, coloursIn, CountsOf, hasColour, smallestWith};
 use crate::colour::Colour;
 use crate::colours::colour_at;
 use crate::counts::count_at;
-use crate::counts::counts_in;
 use rows::maps::is_rep;
 use stored::layout::Layout;
 
@@ -69,30 +67,31 @@ fn smallest_with(table: &[u8], k: u16, later: Open) -> Open
     }
 }
 
-// The smallest open class of one side, the colours taken from the highest down.
-fn smallest_in(roots: &[u8], colours: &[u16]) -> Open
-    requires { ⌜ (length (now roots) ≤ maxElements) × (areSmall (coloursIn (now roots) (now colours)) ≡ true) ⌝ }
-    ensures { λ r. ⌜ openOf r ≡ smallestFrom (coloursIn (now (roots .entry)) (now (colours .entry))) 0 (length (coloursIn (now (roots .entry)) (now (colours .entry)))) ⌝ }
+// The smallest open class of one side, given how many have each colour; the colours are taken from the highest down.
+fn smallest_in(roots: &[u8], table: &[u8]) -> Open
+    requires { ⌜ (length (now roots) ≤ maxElements) × (length (now table) ≡ 128) ⌝ }
+    ensures { λ r. ⌜ ((colours : List ℕ) → CountsOf (now (table .entry)) (coloursIn (now (roots .entry)) colours) → openOf r ≡ smallestFrom (coloursIn (now (roots .entry)) colours) 0 (length (coloursIn (now (roots .entry)) colours))) ⌝ }
 {
-    let counts = counts_in(roots, colours);
     let mut answer = Open::AllSingle;
     let mut k = rep_count(roots);
     while 0 < k {
         k -= 1;
-        let with_k = smallest_with(&counts, k as u16, answer);
-        answer = with_k;
+        if 1 < table[k] {
+            let with_k = smallest_with(table, k as u16, answer);
+            answer = with_k;
+        }
     }
     answer
 }
 
-// The smallest class with two or more members, of those as large that of the lowest colour.
-pub fn smallest_open(s: &[u8], layout: Layout, colours: &[u16]) -> Open
-    requires { ⌜ Reads (now s) layout × (length (now colours) ≡ size (modelOf (now s))) × (areSmall (coloursOf (modelOf (now s)) (now colours)) ≡ true) ⌝ }
-    ensures { λ r. ⌜ openOf r ≡ smallestOpen (modelOf (now (s .entry))) (now (colours .entry)) ⌝ }
+// The smallest class with two or more members, of those as large that of the lowest colour, given how many have each colour.
+pub fn smallest_open(s: &[u8], layout: Layout, table: &[u8]) -> Open
+    requires { ⌜ Reads (now s) layout × (length (now table) ≡ 128) ⌝ }
+    ensures { λ r. ⌜ ((colours : List ℕ) → CountsOf (now (table .entry)) (coloursOf (modelOf (now (s .entry))) colours) → openOf r ≡ smallestOpen (modelOf (now (s .entry))) colours) ⌝ }
 {
     let start = layout.roots;
     let end = start + layout.size;
-    smallest_in(&s[start..end], colours)
+    smallest_in(&s[start..end], table)
 }
 
 // The lowest representative of a colour; the number of elements where there is none.

@@ -3,9 +3,11 @@ ghost use mathlib.Core.Path.{_≡_};
 ghost use mathlib.Core.Bool.{true};
 ghost use mathlib.Core.List.{[]};
 ghost use Prim.Native.Nat.{_≤_};
+ghost use lib.Dec.{eqb};
 ghost use lib.ListN.{length, getD};
 ghost use Rattle.lists.specs.Every.{howMany};
 ghost use Rattle.lists.specs.Numbers.{upFrom};
+ghost use Rattle.lists.specs.Order.{sameRow};
 ghost use Rattle.stored.specs.Limits.{maxElements};
 ghost use Rattle.stored.specs.Model.{size};
 ghost use Rattle.stored.specs.Reading.{Reads, modelOf};
@@ -14,7 +16,6 @@ ghost use Rattle.rounds.specs.Parts.{coloursIn, areSmall, CountsOf, isFi
 use crate::colours::colour_at;
 use rows::maps::is_rep;
 use stored::layout::Layout;
-use stored::signature::same_row;
 
 // A table with a count for each colour below 128.
 pub type Counts = [u8; 128];
@@ -51,32 +52,28 @@ pub(crate) fn count_at(table: &[u8], k: u16) -> u8
     if i < table.len() { table[i] } else { 0 }
 }
 
-// Whether each colour has as many representatives on both sides.
-pub fn equal_counts(
-    left: &[u8],
-    in_left: Layout,
-    right: &[u8],
-    in_right: Layout,
-    left_colours: &[u16],
-    right_colours: &[u16],
-) -> bool
-    requires { ⌜ Reads (now left) «in_left» × Reads (now right) «in_right» × (length (now «left_colours») ≡ size (modelOf (now left))) × (length (now «right_colours») ≡ size (modelOf (now right))) × (areSmall (coloursOf (modelOf (now left)) (now «left_colours»)) ≡ true) × (areSmall (coloursOf (modelOf (now right)) (now «right_colours»)) ≡ true) ⌝ }
-    ensures { λ r. ⌜ r ≡ equalCounts (modelOf (now (left .entry))) (modelOf (now (right .entry))) (record { left = now («left_colours» .entry); right = now («right_colours» .entry) }) ⌝ }
+// How many entries of two tables differ.
+fn differences(left: &[u8], right: &[u8]) -> u8
+    requires { ⌜ (length (now left) ≡ length (now right)) × (length (now left) ≤ 128) ⌝ }
+    ensures { λ r. ⌜ eqb r 0 ≡ sameRow (now (left .entry)) (now (right .entry)) ⌝ }
 {
-    let left_start = in_left.roots;
-    let left_end = left_start + in_left.size;
-    let right_start = in_right.roots;
-    let right_end = right_start + in_right.size;
-    let left_counts = counts_in(&left[left_start..left_end], left_colours);
-    let right_counts = counts_in(&right[right_start..right_end], right_colours);
-    same_row(&left_counts, &right_counts)
+    let mut n: u8 = 0;
+    let mut k: usize = 0;
+    while k < left.len() {
+        if left[k] != right[k] {
+            n += 1;
+        }
+        k += 1;
+    }
+    n
 }
 
 // How many entries of a table are not 0.
-fn filled(table: &[u8]) -> usize
+fn filled(table: &[u8]) -> u8
+    requires { ⌜ length (now table) ≤ 128 ⌝ }
     ensures { λ r. ⌜ r ≡ howMany (isFilled (now (table .entry))) (upFrom 0 (length (now (table .entry)))) ⌝ }
 {
-    let mut n: usize = 0;
+    let mut n: u8 = 0;
     let mut k: usize = 0;
     while k < table.len() {
         if table[k] != 0 {
@@ -87,6 +84,43 @@ fn filled(table: &[u8]) -> usize
     n
 }
 
+// What counting both sides comes to: whether each colour has as many representatives on both, how many colours the left has, and how many of its
+// representatives have each.
+pub struct Balance {
+    pub equal: bool,
+    pub count: usize,
+    pub table: Counts,
+}
+
+// Counts the colours of both sides, each side once.
+pub fn count_both(
+    left: &[u8],
+    in_left: Layout,
+    right: &[u8],
+    in_right: Layout,
+    left_colours: &[u16],
+    right_colours: &[u16],
+) -> Balance
+    requires { ⌜ Reads (now left) «in_left» × Reads (now right) «in_right» × (length (now «left_colours») ≡ size (modelOf (now left))) × (length (now «right_colours») ≡ size (modelOf (now right))) × (areSmall (coloursOf (modelOf (now left)) (now «left_colours»)) ≡ true) × (areSmall (coloursOf (modelOf (now right)) (now «right_colours»)) ≡ true) ⌝ }
+    ensures equal { λ r. ⌜ r .equal ≡ equalCounts (modelOf (now (left .entry))) (modelOf (now (right .entry))) (record { left = now («left_colours» .entry); right = now («right_colours» .entry) }) ⌝ }
+    ensures count { λ r. ⌜ r .count ≡ colourCount (modelOf (now (left .entry))) (now («left_colours» .entry)) ⌝ }
+    ensures table { λ r. ⌜ CountsOf (r .table) (coloursOf (modelOf (now (left .entry))) (now («left_colours» .entry))) ⌝ }
+{
+    let left_start = in_left.roots;
+    let left_end = left_start + in_left.size;
+    let right_start = in_right.roots;
+    let right_end = right_start + in_right.size;
+    let left_counts = counts_in(&left[left_start..left_end], left_colours);
+    let right_counts = counts_in(&right[right_start..right_end], right_colours);
+    let different = differences(&left_counts, &right_counts);
+    let count = filled(&left_counts) as usize;
+    Balance {
+        equal: different == 0,
+        count,
+        table: left_counts,
+    }
+}
+
 // How many different colours the representatives of a side have.
 pub fn colour_count(s: &[u8], layout: Layout, colours: &[u16]) -> usize
     requires { ⌜ Reads (now s) layout × (length (now colours) ≡ size (modelOf (now s))) × (areSmall (coloursOf (modelOf (now s)) (now colours)) ≡ true) ⌝ }
@@ -95,5 +129,5 @@ pub fn colour_count(s: &[u8], layout: Layout, colours: &[u16]) -> usize
     let start = layout.roots;
     let end = start + layout.size;
     let counts = counts_in(&s[start..end], colours);
-    filled(&counts)
+    filled(&counts) as usize
 }

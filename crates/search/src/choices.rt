@@ -93,6 +93,16 @@ pub(crate) fn reopen(right: &[u8], in_right: Layout, choices: &[u16], depth: usi
     left
 }
 
+// How many colours there are when a candidate of the latest of so many open choices is tried: one more than the new colour's number.
+pub(crate) fn tried_count(choices: &[u16], depth: usize) -> usize
+    requires { ⌜ (1 ≤ depth) × (depth * choiceLength ≤ length (now choices)) ⌝ }
+    ensures { λ r. ⌜ r ≡ getD (now (choices .entry)) ((depth - 1) * choiceLength + 130) 0 + 1 ⌝ }
+{
+    let at = (depth - 1) * CHOICE;
+    let new = choices[at + 130] as usize;
+    new + 1
+}
+
 // The first n colours from a place on, with the one of an element replaced; after them 65535, which is none.
 fn tried_row(choices: &[u16], at: usize, n: usize, x: usize, colour: u16) -> [u16; 64]
     requires { ⌜ (at + n ≤ length (now choices)) × (n ≤ maxElements) × (x < n) ⌝ }

@@ -2,7 +2,7 @@
 ghost use mathlib.Core.Path.{_≡_};
 ghost use mathlib.Core.Bool.{true, false};
 ghost use mathlib.Core.List.{[]};
-ghost use Prim.Native.Nat.{ℕ, _≤_, _<_, _+_, _*_};
+ghost use Prim.Native.Nat.{_≤_, _<_, _+_, _*_};
 ghost use lib.ListN.{length, getD, take, drop};
 ghost use Rattle.stored.specs.Limits.{maxElements};
 ghost use Rattle.stored.specs.Model.{size};
@@ -11,11 +11,11 @@ ghost use Rattle.stored.specs.Signature.{signature, sameSignature};
 ghost use Rattle.stored.specs.Reading.{Reads, modelOf};
 ghost use Rattle.rounds.specs.Colours.{leftColours, rightColours};
 ghost use Rattle.rounds.specs.Round.{coloursOf, colourCount, roundOutcome};
-ghost use Rattle.rounds.specs.Classes.{smallestOpen};
-ghost use Rattle.rounds.specs.Parts.{areSmall};
+ghost use Rattle.rounds.specs.Parts.{areSmall, CountsOf};
 ghost use Rattle.rounds.specs.Board.{boardRoom, Board};
+ghost use Rattle.search.specs.declared.machine.Phase.the-variants as phase;
 ghost use Rattle.search.specs.Partners.{PartnersOf};
-ghost use Rattle.search.specs.Machine.{mapOf, afterStable, afterRound};
+ghost use Rattle.search.specs.Machine.{mapOf, afterRound};
 ghost use Rattle.search.specs.Machine as machine;
 ghost use Rattle.search.specs.Answer.{answerOf, written, cleared, workRoom, ended};
 ghost use Rattle.search.specs.Find.{roundCost, startFrom};
@@ -25,6 +25,7 @@ ghost use Rattle.search.specs.Choices.{choiceLength, choicesOn, choicesI
 use crate::answer::Answer;
 use crate::choices::open_choice;
 use crate::choices::reopen;
+use crate::choices::tried_count;
 use crate::choices::try_choice;
 use crate::closing::closes;
 use crate::closing::map_of;
@@ -36,7 +37,7 @@ use rounds::classes::smallest_open;
 use rounds::colours::left_colours;
 use rounds::colours::right_colours;
 use rounds::counts::colour_count;
-use rounds::counts::equal_counts;
+use rounds::counts::count_both;
 use rounds::round::Rows;
 use rounds::round::round;
 use rounds::round::set_up;
@@ -54,10 +55,11 @@ pub enum Phase {
     Choose,
 }
 
-// What is due next, and how many choices are open.
+// What is due next, how many choices are open, and, where a round is due, how many colours the left has.
 pub struct Turn {
     pub phase: Phase,
     pub depth: usize,
+    pub count: usize,
 }
 
 // After a stable round: a choice is opened at the smallest left class with two or more members; where all are single the closing check is due.
@@ -67,16 +69,19 @@ fn settle(
     row: &[u16],
     other: &[u16],
     count: usize,
+    table: &[u8],
     choices: &mut [u16],
     depth: usize,
 ) -> Turn
-    requires { ⌜ Reads (now left) «in_left» × (length (now row) ≡ size (modelOf (now left))) × (length (now other) ≤ maxElements) × (count ≡ colourCount (modelOf (now left)) (now row)) × (depth * choiceLength + choiceLength ≤ length (now choices)) × (areSmall (coloursOf (modelOf (now left)) (now row)) ≡ true) ⌝ }
-    ensures { λ r. ⌜ Settled (modelOf (now (left .entry))) (now (row .entry)) (now (other .entry)) (now (choices .entry)) depth (r .phase) (r .depth) (now (choices .exit)) ⌝ }
+    requires { ⌜ Reads (now left) «in_left» × (length (now row) ≡ size (modelOf (now left))) × (length (now other) ≤ maxElements) × (count ≡ colourCount (modelOf (now left)) (now row)) × (depth * choiceLength + choiceLength ≤ length (now choices)) × CountsOf (now table) (coloursOf (modelOf (now left)) (now row)) ⌝ }
+    ensures settled { λ r. ⌜ Settled (modelOf (now (left .entry))) (now (row .entry)) (now (other .entry)) (now (choices .entry)) depth (r .phase) (r .depth) (now (choices .exit)) ⌝ }
+    ensures count { λ r. ⌜ r .count ≡ count ⌝ }
 {
-    match smallest_open(left, in_left, row) {
+    match smallest_open(left, in_left, table) {
         Open::AllSingle => Turn {
             phase: Phase::Close,
             depth,
+            count,
         },
         Open::At(k) => {
             let x = lowest_of(left, in_left, row, k);
@@ -84,31 +89,32 @@ fn settle(
             Turn {
                 phase: Phase::Choose,
                 depth: depth + 1,
+                count,
             }
         }
     }
 }
 
-// One round, and what it comes to.
+// One round, and what it comes to, given how many colours the left has before it.
 fn refine(
     left: &[u8],
     in_left: Layout,
     right: &[u8],
     in_right: Layout,
     cells: usize,
+    before: usize,
     colours: &mut Rows,
     work: &mut [u16],
     depth: usize,
 ) -> Turn
-    requires { ⌜ Reads (now left) «in_left» × Reads (now right) «in_right» × (sameSignature (signature (modelOf (now left))) (signature (modelOf (now right))) ≡ true) × Board (modelOf (now left)) (modelOf (now right)) cells (take boardRoom (now work)) × (workRoom ≤ length (now work)) × (depth < maxElements) × Rows (now colours) × SmallSides (modelOf (now left)) (modelOf (now right)) (sidesIn (modelOf (now left)) (modelOf (now right)) (now colours)) ⌝ }
+    requires { ⌜ Reads (now left) «in_left» × Reads (now right) «in_right» × (sameSignature (signature (modelOf (now left))) (signature (modelOf (now right))) ≡ true) × Board (modelOf (now left)) (modelOf (now right)) cells (take boardRoom (now work)) × (workRoom ≤ length (now work)) × (depth < maxElements) × Rows (now colours) × SmallSides (modelOf (now left)) (modelOf (now right)) (sidesIn (modelOf (now left)) (modelOf (now right)) (now colours)) × (before ≡ colourCount (modelOf (now left)) (sidesIn (modelOf (now left)) (modelOf (now right)) (now colours) .left)) ⌝ }
     ensures state { λ r. ⌜ stateOf (r .phase) (sidesIn (modelOf (now (left .entry))) (modelOf (now (right .entry))) (now (colours .exit))) (choicesIn (modelOf (now (left .entry))) (modelOf (now (right .entry))) (choicesOn (now (work .exit))) (r .depth)) ≡ afterRound (modelOf (now (left .entry))) (modelOf (now (right .entry))) (choicesIn (modelOf (now (left .entry))) (modelOf (now (right .entry))) (choicesOn (now (work .entry))) depth) (roundOutcome (modelOf (now (left .entry))) (modelOf (now (right .entry))) (sidesIn (modelOf (now (left .entry))) (modelOf (now (right .entry))) (now (colours .entry)))) ⌝ }
     ensures kept { λ r. ⌜ Board (modelOf (now (left .entry))) (modelOf (now (right .entry))) cells (take boardRoom (now (work .exit))) × Rows (now (colours .exit)) × (r .depth ≤ depth + 1) × (length (now (work .exit)) ≡ length (now (work .entry))) × (drop workRoom (now (work .exit)) ≡ drop workRoom (now (work .entry))) ⌝ }
+    ensures count { λ r. ⌜ (r .phase ≡ phase.Refine → r .count ≡ colourCount (modelOf (now (left .entry))) (sidesIn (modelOf (now (left .entry))) (modelOf (now (right .entry))) (now (colours .exit)) .left)) ⌝ }
 {
     let n = in_left.size;
     let m = in_right.size;
     let old = *colours;
-    let old_row = old[0];
-    let before = colour_count(left, in_left, &old_row[..n]);
     let new = round(
         left,
         in_left,
@@ -121,25 +127,29 @@ fn refine(
     *colours = new;
     let row = new[0];
     let other = new[1];
-    if !equal_counts(left, in_left, right, in_right, &row[..n], &other[..m]) {
+    let both = count_both(left, in_left, right, in_right, &row[..n], &other[..m]);
+    if !both.equal {
         return Turn {
             phase: Phase::Choose,
             depth,
+            count: 0,
         };
     }
-    let after = colour_count(left, in_left, &row[..n]);
-    if after != before {
+    if both.count != before {
         return Turn {
             phase: Phase::Refine,
             depth,
+            count: both.count,
         };
     }
+    let table = both.table;
     settle(
         left,
         in_left,
         &row[..n],
         &other[..m],
-        after,
+        both.count,
+        &table,
         &mut work[BOARD..ROOM],
         depth,
     )
@@ -208,6 +218,16 @@ fn first_colours(
     [row, other]
 }
 
+// How many colours the left has at the start.
+fn first_count(left: &[u8], in_left: Layout, start: Rows) -> usize
+    requires { ⌜ Reads (now left) «in_left» × Rows start × (areSmall (coloursOf (modelOf (now left)) (take (size (modelOf (now left))) (getD start 0 []))) ≡ true) ⌝ }
+    ensures { λ r. ⌜ r ≡ colourCount (modelOf (now (left .entry))) (take (size (modelOf (now (left .entry)))) (getD start 0 [])) ⌝ }
+{
+    let n = in_left.size;
+    let row = start[0];
+    colour_count(left, in_left, &row[..n])
+}
+
 // The machine's run from some colours with no open choice (`search` of model_hom.rs).
 fn run(
     left: &[u8],
@@ -225,6 +245,7 @@ fn run(
     ensures output { λ _. ⌜ now (out .exit) ≡ written (ended (machine.run budget roundCost (modelOf (now (left .entry))) (modelOf (now (right .entry))) budget 0 (machine.refine (sidesIn (modelOf (now (left .entry))) (modelOf (now (right .entry))) start) []))) (now (out .entry)) ⌝ }
     ensures work { λ _. ⌜ (length (now (work .exit)) ≡ length (now (work .entry))) × (drop workRoom (now (work .exit)) ≡ drop workRoom (now (work .entry))) ⌝ }
 {
+    let mut count = first_count(left, in_left, start);
     let mut colours = start;
     let mut phase = Phase::Refine;
     let mut depth: usize = 0;
@@ -242,12 +263,14 @@ fn run(
                     right,
                     in_right,
                     cells,
+                    count,
                     &mut colours,
                     work,
                     depth,
                 );
                 phase = turn.phase;
                 depth = turn.depth;
+                count = turn.count;
             }
             Phase::Close => {
                 if used == budget {
@@ -278,6 +301,7 @@ fn run(
                     &mut colours,
                 ) {
                     used += 1; // a candidate of the colour
+                    count = tried_count(&work[BOARD..ROOM], depth);
                     phase = Phase::Refine;
                 } else {
                     used += 1; // a candidate of another colour

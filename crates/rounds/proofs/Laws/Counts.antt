@@ -17,7 +17,7 @@ use Rattle.lists.specs.Numbers.{upFrom}
 use Rattle.lists.specs.Order.{sameRow}
 use Rattle.lists.proofs.Laws.Tests.{split, same-test}
 use Rattle.lists.proofs.Laws.Every.{all-mem, mem-all, keep-none, keep-yes, keep-no, keep-mem, mem-keep}
-use Rattle.lists.proofs.Laws.Numbers.{upFrom-mem}
+use Rattle.lists.proofs.Laws.Numbers.{upFrom-end, upFrom-mem}
 use Rattle.lists.proofs.Laws.Order.{same-row, same-row-refl}
 use Rattle.lists.proofs.Laws.Sets.{keep-distinct, firsts-distinct, mem-firsts, firsts-mem}
 use Rattle.lists.proofs.Laws.Counting.{howMany-none, howMany-yes, howMany-no, howMany-append, howMany-mem, howMany-some, howMany-fits, distinct-fits, upFrom-distinct}
@@ -26,7 +26,7 @@ use Rattle.stored.specs.Reading.{Reads, modelOf}
 use Rattle.rows.proofs.Laws.Given.{rootsIn}
 use Rattle.rounds.specs.Round.{coloursOf, colourCount, equalCounts}
 use Rattle.rounds.specs.Parts.{coloursIn, areSmall, CountsOf, isFilled}
-use Rattle.rounds.proofs.Laws.Parts.{colours-handed}
+use Rattle.rounds.proofs.Laws.Parts.{up-more, colours-handed}
 
 -- colours below 128
 module _ (colours : List ℕ) where
@@ -56,6 +56,42 @@ module _ (table : List ℕ) (k : ℕ) where
   pub is-empty : getD table k 0 ≡ 0 → isFilled table k ≡ false
   unfolding isFilled
   is-empty e = rw (eq-eqb (getD table k 0) 0 e)
+
+-- so many of a table's entries below k are not 0
+pub record Filled (table : List ℕ) (n k : ℕ) : Type 0 where
+  pub few : n ≤ k
+  pub within : k ≤ length table
+  pub same : n ≡ howMany (isFilled table) (upFrom 0 k)
+
+pub filled-start : (table : List ℕ) → Filled table 0 0
+filled-start table = record {
+  few = omega arith;
+  within = omega arith;
+  same = sym (ap (howMany (isFilled table)) (upFrom-end 0 0 (omega arith)) ∙ howMany-none (isFilled table));
+}
+
+module _ (table : List ℕ) (n k : ℕ) (i : Filled table n k) where
+  pub filled-done : length table ≤ k → n ≡ howMany (isFilled table) (upFrom 0 (length table))
+  filled-done h = let e : k ≡ length table = omega (arith, i .within) in i .same ∙ ap (λ (j : ℕ). howMany (isFilled table) (upFrom 0 j)) e
+
+  -- the entry at k
+  module _ (h : k < length table) where
+    one-more : howMany (isFilled table) (upFrom 0 (k + 1)) ≡ howMany (isFilled table) (upFrom 0 k) + howMany (isFilled table) (k ∷ [])
+    one-more = ap (howMany (isFilled table)) (up-more k) ∙ howMany-append (isFilled table) (upFrom 0 k) (k ∷ [])
+
+    pub filled-some : (getD table k 0 ≡ 0 → ⊥) → (m : ℕ) → m ≡ n + 1 → Filled table m (k + 1)
+    filled-some d m q = record {
+      few = omega (arith, i .few);
+      within = omega arith;
+      same = omega (arith, i .same, one-more, howMany-yes (isFilled table) k [] (is-filled table k d), howMany-none (isFilled table));
+    }
+
+    pub filled-none : getD table k 0 ≡ 0 → (m : ℕ) → m ≡ n → Filled table m (k + 1)
+    filled-none d m q = record {
+      few = omega (arith, i .few);
+      within = omega arith;
+      same = omega (arith, i .same, one-more, howMany-no (isFilled table) k [] (is-empty table k d), howMany-none (isFilled table));
+    }
 
 -- a table of zeros counts none
 pub counts-none : (table : List ℕ) → table ≡ replicate {A = ℕ} 128 0 → CountsOf table []

@@ -1,9 +1,9 @@
--- The machine's loop: the rest of the run from here is the run from the start. Assumes nothing.
+-- The machine's loop: the rest of the run from here is the run from the start, and the number of the left's colours is carried to each round. Assumes nothing.
 use Prim.Native.Nat.{ℕ, zero, suc, _+_, _-_, _*_, _<_, _≤_}
 use mathlib.Core.Path.{_≡_, refl, sym, _∙_, ap, subst}
 use mathlib.Core.Bool.{Bool, true, false}
 use mathlib.Core.Logic.{by-cases}
-use mathlib.Core.List.{List, [], _++_}
+use mathlib.Core.List.{List, [], _∷_, _++_}
 use native.Mathlib.Omega.{arith}
 use native.Mathlib.Nat.{mul-le-mul-right}
 use native.Mathlib.Decide.{decLe}
@@ -21,7 +21,8 @@ use Rattle.stored.specs.Signature.{signature, sameSignature}
 use Rattle.stored.specs.Reading.{Reads, modelOf}
 use Rattle.stored.proofs.Laws.Reading.{reads-formed, size-is}
 use Rattle.rows.proofs.Laws.Given.{size-few}
-use Rattle.rounds.specs.Round.{reps, Sides, roundOutcome}
+use Rattle.rounds.specs.Round.{reps, Sides, roundOutcome, coloursOf, colourCount}
+use Rattle.rounds.specs.Parts.{areSmall}
 use Rattle.rounds.specs.Board.{boardRoom, Board}
 use Rattle.rounds.proofs.Theorems.Keys.{reps-below, reps-kept}
 use Rattle.rounds.proofs.Theorems.Single.{open-lowest}
@@ -29,19 +30,20 @@ use Rattle.search.specs.declared.answer.Answer as answered
 use Rattle.search.specs.declared.answer.Answer.the-variants as answer
 use Rattle.search.specs.declared.machine.Phase.{Phase}
 use Rattle.search.specs.declared.machine.Phase.the-variants as phase
-use Rattle.search.specs.Machine.{Choice, State, refine, close, choose, done, Step, there, nowhere, takes, mapOf, closes, afterRound, afterClosing, nextChoice, step, Ended, found, none, exhausted, run}
+use Rattle.search.specs.Machine.{Choice, State, refine, close, choose, done, Step, there, nowhere, takes, mapOf, closes, afterRound, afterClosing, goneOn, nextChoice, step, Ended, found, none, exhausted, run}
 use Rattle.search.specs.Answer.{answerOf, written, workRoom, ended}
 use Rattle.search.specs.Find.{alike}
 use Rattle.search.specs.Closing.{OneToOne}
 use Rattle.search.specs.Choices.{choiceLength, choicesOn, choiceIn, candidateIn, choicesIn, sidesIn, stateOf, Rows, SmallSides, writtenIf, Reopened, Looked}
 use Rattle.search.proofs.Laws.Run.{run-there, run-nowhere, run-takes, run-out}
+use Rattle.search.proofs.Laws.Refine.{choose-no-round}
 use Rattle.search.proofs.Laws.Choices.{choice-goes, next-none, next-same, next-other}
 use Rattle.search.proofs.Theorems.Invariant.{Reached, here, next}
 use Rattle.search.proofs.Theorems.Steps.{reached-sound}
 use Rattle.search.proofs.Theorems.Onto.{AlikeModels}
 use Rattle.search.proofs.Theorems.Sound.{settled-one-to-one}
 use Rattle.search.proofs.Theorems.Small.{reached-small}
-use Rattle.search.proofs.Theorems.Choices.{openIn, Rising, Risen, reached-rising, open-choices}
+use Rattle.search.proofs.Theorems.Choices.{openIn, Rising, Risen, trial-count, reached-rising, open-choices}
 
 -- the rest of a run from some colours with no open choice, after so many units
 module _ (a b : Model) (budget : ℕ) (start : Sides) where
@@ -118,6 +120,38 @@ pub choices-long : (a b : Model) (w : List ℕ) (depth : ℕ) → length (choice
 unfolding choicesIn
 choices-long a b w zero = refl
 choices-long a b w (suc depth) = ap suc (choices-long a b w depth)
+
+-- the number of colours that is carried: where a round is due, how many the left has
+pub record Carried (a b : Model) (colours : List (List ℕ)) (due : Phase) (count : ℕ) : Type 0 where
+  pub counted : due ≡ phase.Refine → count ≡ colourCount a (sidesIn a b colours .left)
+
+module _ (a b : Model) (colours : List (List ℕ)) where
+  pub start-small : SmallSides a b (sidesIn a b colours) → areSmall (coloursOf a (take (size a) (getD colours 0 []))) ≡ true
+  unfolding sidesIn
+  start-small h = h .0
+
+  pub carried-start : (count : ℕ) → count ≡ colourCount a (take (size a) (getD colours 0 [])) → Carried a b colours phase.Refine count
+  unfolding sidesIn
+  carried-start count h = record { counted = λ _. h }
+
+  -- of no use where a candidate is due
+  pub carried-past : (due : Phase) (count : ℕ) → due ≡ phase.Choose → Carried a b colours due count
+  carried-past due count q = record { counted = λ e. choose-no-round (sym q ∙ e) }
+
+-- the new colour of the latest choice
+newest : List Choice → ℕ
+newest [] = 0
+newest (e ∷ choices) = e .new
+
+newest-in : (a b : Model) (w : List ℕ) (depth : ℕ) → 1 ≤ depth → newest (choicesIn a b w depth) ≡ getD w ((depth - 1) * choiceLength + 130) 0
+unfolding choicesIn choiceIn newest
+newest-in a b w depth h =
+    let e : depth ≡ suc (depth - 1) = omega arith in
+    ap (λ (i : ℕ). newest (choicesIn a b w i)) e
+
+newest-gone : (e : Choice) (ys : List ℕ) (choices : List Choice) → newest (goneOn e ys ∷ choices) ≡ e .new
+unfolding goneOn newest
+newest-gone e ys choices = refl
 
 -- what is known before each turn
 pub record Running (s t : List ℕ) (l m : Layout) (cells : ℕ) (start : List (List ℕ)) (budget : ℕ) (out₀ work₀ out work : List ℕ) (colours : List (List ℕ)) (due : Phase) (depth used : ℕ) : Type 0 where
@@ -303,7 +337,7 @@ module _ (s t : List ℕ) (l m : Layout) (cells : ℕ) (start : List (List ℕ))
       candidate-there = o .goes least
 
       -- the part of the work for the choices was lent and came back
-      module _ (n : used ≡ budget → ⊥) (part' : List ℕ) (long' : length part' ≡ length (choicesOn work)) (colours' : List (List ℕ)) where
+      module _ (part' : List ℕ) (long' : length part' ≡ length (choicesOn work)) where
         abbrev work' : List ℕ
         work' = take boardRoom work ++ (part' ++ drop 12032 (drop boardRoom work))
 
@@ -328,37 +362,55 @@ module _ (s t : List ℕ) (l m : Layout) (cells : ℕ) (start : List (List ℕ))
             length-append (take boardRoom work) (part' ++ drop 12032 (drop boardRoom work))
             ∙ omega (arith, front-long, length-append part' (drop 12032 (drop boardRoom work)), long', choices-room, length-drop 12032 (drop boardRoom work), length-drop boardRoom work, work-room)
 
-        tried-on : (due' : Phase) → Rows colours' → step 1 a b (choose now-choices) ≡ takes 1 (stateOf due' (sidesIn a b colours') (choicesIn a b part' stay))
-            → Running s t l m cells start budget out₀ work₀ out work' colours' due' stay (used + 1)
-        tried-on due' rows' e = record {
-          reads = r .reads;
-          others = r .others;
-          alikes = r .alikes;
-          fits = r .fits;
-          room = r .room;
-          board = rw same-front (r .board);
-          rows = rows';
-          long = same-long ∙ r .long;
-          above = same-above ∙ r .above;
-          same-out = r .same-out;
-          goes =
-              goes-on a b budget (sidesIn a b start) used _ at-choice _
-              (e ∙ ap (λ (w : List ℕ). takes 1 (stateOf due' (sidesIn a b colours') (choicesIn a b w stay))) (sym new-choices)) n;
-        }
+        pub tried-room : workRoom ≤ length work'
+        tried-room = omega (arith, same-long, work-room)
 
-        module _ (has : Bool) (k : Looked b (l .size) (choicesOn work) stay colours part' colours' has) where
-          pub choice-same : has ≡ true → Running s t l m cells start budget out₀ work₀ out work' colours' phase.Refine stay (used + 1)
-          unfolding stateOf
-          choice-same h =
-              let j = subst (Looked b (l .size) (choicesOn work) stay colours part' colours') h k in
-              tried-on phase.Refine (j .long refl) (leads _ (next-same a b (choicesOn work) stay least candidate-there (sym (size-is s l (r .reads))) j))
+        pub tried-fits : stay * choiceLength ≤ length (choicesOn work')
+        tried-fits = omega (arith, ap length new-choices, long', stay-fits)
 
-          pub choice-other : has ≡ false → Running s t l m cells start budget out₀ work₀ out work' colours' due stay (used + 1)
-          unfolding stateOf
-          choice-other h =
-              let j = subst (Looked b (l .size) (choicesOn work) stay colours part' colours') h k in
-              subst (λ (p : Phase). Running s t l m cells start budget out₀ work₀ out work' colours' p stay (used + 1)) (sym q)
-              (tried-on phase.Choose (rw (j .leaves refl) (r .rows)) (leads _ (next-other a b (choicesOn work) stay least candidate-there (sym (size-is s l (r .reads))) j)))
+        module _ (n : used ≡ budget → ⊥) (colours' : List (List ℕ)) where
+          tried-on : (due' : Phase) → Rows colours' → step 1 a b (choose now-choices) ≡ takes 1 (stateOf due' (sidesIn a b colours') (choicesIn a b part' stay))
+              → Running s t l m cells start budget out₀ work₀ out work' colours' due' stay (used + 1)
+          tried-on due' rows' e = record {
+            reads = r .reads;
+            others = r .others;
+            alikes = r .alikes;
+            fits = r .fits;
+            room = r .room;
+            board = rw same-front (r .board);
+            rows = rows';
+            long = same-long ∙ r .long;
+            above = same-above ∙ r .above;
+            same-out = r .same-out;
+            goes =
+                goes-on a b budget (sidesIn a b start) used _ at-choice _
+                (e ∙ ap (λ (w : List ℕ). takes 1 (stateOf due' (sidesIn a b colours') (choicesIn a b w stay))) (sym new-choices)) n;
+          }
+
+          module _ (has : Bool) (k : Looked b (l .size) (choicesOn work) stay colours part' colours' has) where
+            pub choice-same : has ≡ true → Running s t l m cells start budget out₀ work₀ out work' colours' phase.Refine stay (used + 1)
+            unfolding stateOf
+            choice-same h =
+                let j = subst (Looked b (l .size) (choicesOn work) stay colours part' colours') h k in
+                tried-on phase.Refine (j .long refl) (leads _ (next-same a b (choicesOn work) stay least candidate-there (sym (size-is s l (r .reads))) j))
+
+            -- with one colour more than the choice had
+            pub choice-counted : has ≡ true → (count : ℕ) → count ≡ getD (choicesOn work') ((stay - 1) * choiceLength + 130) 0 + 1 → Carried a b colours' phase.Refine count
+            choice-counted h count e =
+                let latest = choiceIn a b (choicesOn work) (stay - 1) in
+                let size-same = sym (size-is s l (r .reads)) in
+                let kept : getD part' ((stay - 1) * choiceLength + 130) 0 ≡ latest .new =
+                sym (newest-in a b part' stay least) ∙ ap newest (k .gone-on a size-same) ∙ newest-gone latest _ _ in
+                let more : colourCount a (sidesIn a b colours' .left) ≡ suc (latest .new) =
+                ap (λ (c : Sides). colourCount a (c .left)) (k .gives h a size-same) ∙ trial-count a b latest _ (latest-risen .opened) in
+                record { counted = λ _. omega (arith, e, ap (λ (w : List ℕ). getD w ((stay - 1) * choiceLength + 130) 0) new-choices, kept, more) }
+
+            pub choice-other : has ≡ false → Running s t l m cells start budget out₀ work₀ out work' colours' due stay (used + 1)
+            unfolding stateOf
+            choice-other h =
+                let j = subst (Looked b (l .size) (choicesOn work) stay colours part' colours') h k in
+                subst (λ (p : Phase). Running s t l m cells start budget out₀ work₀ out work' colours' p stay (used + 1)) (sym q)
+                (tried-on phase.Choose (rw (j .leaves refl) (r .rows)) (leads _ (next-other a b (choicesOn work) stay least candidate-there (sym (size-is s l (r .reads))) j)))
 
 -- the first turn
 pub running-start :

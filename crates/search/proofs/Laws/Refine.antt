@@ -39,6 +39,15 @@ use Rattle.search.specs.Choices.{choiceLength, choicesOn, choicesIn, sid
 use Rattle.search.proofs.Laws.Choices.{opened-at}
 use Rattle.search.proofs.Theorems.Small.{after-round}
 
+-- where a candidate is due no round is
+pub choose-no-round : {X : Type 0} → phase.Choose ≡ phase.Refine → X
+choose-no-round e = absurd (omega (arith, ap rank e))
+  where
+    rank : Phase → ℕ
+    rank phase.Refine = 0
+    rank phase.Close = 1
+    rank phase.Choose = 2
+
 -- the state of each phase
 module _ (c : Sides) (choices : List Choice) where
   pub state-refine : stateOf phase.Refine c choices ≡ refine c choices
@@ -148,14 +157,14 @@ pub rounded-rows :
     (s t : List ℕ) (l m : Layout) → Reads s l → Reads t m → (c₀ c : List (List ℕ)) (before : ℕ)
     → _≡_ {A = Sides} (record { left = take (size (modelOf s)) (getD c 0 []); right = take (size (modelOf t)) (getD c 1 []) })
     (round (modelOf s) (modelOf t) (record { left = take (size (modelOf s)) (getD c₀ 0 []); right = take (size (modelOf t)) (getD c₀ 1 []) }))
-    → before ≡ colourCount (modelOf s) (take (l .size) (getD c₀ 0 []))
+    → before ≡ colourCount (modelOf s) (sidesIn (modelOf s) (modelOf t) c₀ .left)
     → Rounded (modelOf s) (modelOf t) (l .size) (m .size) c₀ c before
 unfolding sidesIn
 rounded-rows s t l m rs rt c₀ c before e h = record {
   left-size = size-is s l rs;
   right-size = size-is t m rt;
   is-round = e;
-  had = h ∙ ap (λ (k : ℕ). colourCount (modelOf s) (take k (getD c₀ 0 []))) (size-is s l rs);
+  had = h;
 }
 
 module _ {a b : Model} {n m : ℕ} {c₀ c : List (List ℕ)} {before : ℕ} (u : Rounded a b n m c₀ c before) where
@@ -186,6 +195,9 @@ module _ {a b : Model} {n m : ℕ} {c₀ c : List (List ℕ)} {before : ℕ} (u 
 
     -- how many colours the left has
     module _ (q : r ≡ true) (after : ℕ) (has : after ≡ colourCount a (take n (getD c 0 []))) where
+      pub count-now : after ≡ colourCount a (sidesIn a b c .left)
+      count-now = has ∙ ap (λ (x : Sides). colourCount a (x .left)) fronts-are
+
       has-new : after ≡ colourCount a (new .left)
       has-new = has ∙ ap (λ (x : Sides). colourCount a (x .left)) fronts-new
 
@@ -210,15 +222,23 @@ module _ {a b : Model} {n m : ℕ} {c₀ c : List (List ℕ)} {before : ℕ} (u 
           ∙ sym (round-stable a b (choicesIn a b v₀ depth) new)
           ∙ ap (afterRound a b (choicesIn a b v₀ depth)) (sym (outcome-stable a b (sidesIn a b c₀) new (equal-is true q) (eq-eqb _ _ (sym has-new ∙ same ∙ u .had))))
 
+-- the front of a row, by the size in the layout
+module _ (s : List ℕ) (l : Layout) (reads : Reads s l) (row : List ℕ) where
+  pub front-small : areSmall (coloursOf (modelOf s) (take (size (modelOf s)) row)) ≡ true → areSmall (coloursOf (modelOf s) (take (l .size) row)) ≡ true
+  front-small h = ap (λ (k : ℕ). areSmall (coloursOf (modelOf s) (take k row))) (size-is s l reads) ∙ h
+
+  pub front-count : colourCount (modelOf s) (take (l .size) row) ≡ colourCount (modelOf s) (take (size (modelOf s)) row)
+  front-count = ap (λ (k : ℕ). colourCount (modelOf s) (take k row)) (size-is s l reads)
+
 -- the fronts of two rows, by the sizes in the layouts, where the colours of both sides are small
 module _ (s t : List ℕ) (l m : Layout) (p : Reads s l) (q : Reads t m) (c : List (List ℕ)) (small : SmallSides (modelOf s) (modelOf t) (sidesIn (modelOf s) (modelOf t) c)) where
   pub left-small : areSmall (coloursOf (modelOf s) (take (l .size) (getD c 0 []))) ≡ true
   unfolding sidesIn
-  left-small = ap (λ (k : ℕ). areSmall (coloursOf (modelOf s) (take k (getD c 0 [])))) (size-is s l p) ∙ small .0
+  left-small = front-small s l p (getD c 0 []) (small .0)
 
   pub right-small : areSmall (coloursOf (modelOf t) (take (m .size) (getD c 1 []))) ≡ true
   unfolding sidesIn
-  right-small = ap (λ (k : ℕ). areSmall (coloursOf (modelOf t) (take k (getD c 1 [])))) (size-is t m q) ∙ small .1
+  right-small = front-small t m q (getD c 1 []) (small .1)
 
 -- as they are after a round
 pub rounded-small :

@@ -75,12 +75,17 @@ module _ (a b : Model) where
     above = above-more _ _ choices (omega (arith, stable-keeps a b c d e)) h;
   }
 
-  trial-above : (e : Choice) (y : ℕ) (ys : List ℕ) (choices : List Choice) → Opened a b e → Above (colourCount a (tried e y .left)) (goneOn e ys ∷ choices)
-  unfolding tried goneOn
-  trial-above e y ys choices h =
+  -- a trial has one colour more, which is the new one
+  pub trial-count : (e : Choice) (y : ℕ) → Opened a b e → colourCount a (tried e y .left) ≡ suc (e .new)
+  unfolding tried
+  trial-count e y h =
       let raised = trial-raises a b (h .before) (e .sides) (h .was-stable) (e .old) (h .was-open) in
       let same : colourCount a (set (e .sides .left) (e .element) (e .new)) ≡ suc (colourCount a (e .sides .left)) = cc (h .its-element, h .its-new, raised) in
-      omega (arith, h .its-new)
+      omega (arith, same, h .its-new)
+
+  trial-above : (e : Choice) (y : ℕ) (ys : List ℕ) (choices : List Choice) → Opened a b e → Above (colourCount a (tried e y .left)) (goneOn e ys ∷ choices)
+  unfolding goneOn
+  trial-above e y ys choices h = omega (arith, trial-count e y h)
 
   pub rising-kept : Kept a b RisingState
   rising-kept = record {

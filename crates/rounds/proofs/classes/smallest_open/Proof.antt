@@ -1,10 +1,11 @@
 -- `rounds::classes::smallest_open` meets its contract: the roots that are handed on are the model's. Assumes nothing.
-use mathlib.Core.Path.{_∙_}
+use mathlib.Core.Path.{sym, _∙_, subst}
 use native.Mathlib.Omega.{arith}
 use borrow.Author.Needs.{needs}
 use Rattle.stored.proofs.Laws.Reading.{roots-inside}
 use Rattle.rows.proofs.Laws.Given.{roots-few}
-use Rattle.rounds.proofs.Laws.Counts.{small-handed}
+use Rattle.rounds.specs.Parts.{CountsOf}
+use Rattle.rounds.proofs.Laws.Parts.{colours-handed}
 use Rattle.rounds.proofs.Laws.Classes.{open-handed}
 use Rattle.rounds.proofs.classes.smallest_open.Statement.{statement}
 use Rattle.rounds.proofs.classes.smallest_open.Tie as tie
@@ -22,12 +23,12 @@ part-smallest-in-end : tie.Need-part-smallest-in-end
 part-smallest-in-end c = roots-inside _ _ (c .before .before .before .pre .0)
 
 smallest-in-requires : tie.Need-smallest-in-requires
-smallest-in-requires c κs =
-    let p = c .before .before .before .before .pre in
-    (roots-few _ _ (p .0), small-handed _ _ (p .0) _ (p .2))
+smallest-in-requires c κs = let p = c .before .before .before .before .pre in (roots-few _ _ (p .0), p .1)
 
 returns : tie.Need-returns
-returns c = c .smallest-in .ensures ∙ open-handed _ _ (c .before .before .before .before .before .pre .0) _
+returns c colours counts =
+    let reads = c .before .before .before .before .before .pre .0 in
+    c .smallest-in .ensures colours (subst (CountsOf _) (sym (colours-handed _ _ reads colours)) counts) ∙ open-handed _ _ reads colours
 
 pub smallest-open-spec : {M : Type 1} → statement M
 smallest-open-spec =

@@ -29,7 +29,10 @@ slice-aggregate-filled : tie.Need-slice-aggregate-filled
 slice-aggregate-filled c = search needs
 
 filled-requires : tie.Need-filled-requires
-filled-requires c κs = search needs
+filled-requires c κs = omega (arith, c .before .counts-in .ensures .room)
+
+cast-result : tie.Need-cast-result
+cast-result c = search needs
 
 returns : tie.Need-returns
 returns c =
@@ -47,4 +50,5 @@ colour-count-spec =
     counts-in-requires
     slice-aggregate-filled
     filled-requires
+    cast-result
     returns)

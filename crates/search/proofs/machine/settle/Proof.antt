@@ -1,5 +1,6 @@
 -- `search::machine::settle` meets its contract: the phase is that of the class found, and a class with two or more members opens a choice. Assumes
 -- nothing.
+use mathlib.Core.Path.{refl}
 use native.Mathlib.Omega.{arith}
 use borrow.Author.Needs.{needs}
 use Rattle.stored.proofs.Laws.Reading.{reads-formed}
@@ -8,7 +9,7 @@ use Rattle.search.proofs.machine.settle.Statement.{statement}
 use Rattle.search.proofs.machine.settle.Tie as tie
 
 smallest-open-requires : tie.Need-smallest-open-requires
-smallest-open-requires c κs = search needs
+smallest-open-requires c κs = let p = c .before .before .before .before .before .pre in (p .0, p .5 .room)
 
 enum-told : tie.Need-enum-told
 enum-told c = search needs
@@ -21,24 +22,24 @@ lowest-of-requires c κs = search needs
 
 cast-open-choice : tie.Need-cast-open-choice
 cast-open-choice c =
-    let s = c .before .before .before .before .before .before .before .before .before .before in
+    let s = c .before .before .before .before .before .before .before .before .before .before .before in
     omega (arith, c .before .lowest-of .ensures, low-element _ _ (s .pre .0) (s .args .row .now) (c .before .before .before .k .given .0 .0 .0))
 
 cast-open-choice-2 : tie.Need-cast-open-choice-2
 cast-open-choice-2 c =
-    let s = c .before .before .before .before .before .before .before .before .before .before in
+    let s = c .before .before .before .before .before .before .before .before .before .before .before in
     omega (arith, s .pre .3, few-colours _ _ (s .pre .0) (s .args .row .now))
 
 open-choice-requires : tie.Need-open-choice-requires
 open-choice-requires c κs =
-    let s = c .before .before .before .before .before .before .before .before .before .before in
+    let s = c .before .before .before .before .before .before .before .before .before .before .before in
     (s .pre .4, omega (arith, s .pre .1, reads-formed _ _ (s .pre .0) .few-elements), s .pre .2)
 
-add-t19 : tie.Need-add-t19
-add-t19 c = search needs
+add-t20 : tie.Need-add-t20
+add-t20 c = search needs
 
 returns : tie.Need-returns
-returns c = settled-single _ _ _ _ _ _ (c .before .before .smallest-open .ensures) (c .enum-told .given .1)
+returns c = (settled-single _ _ _ _ _ _ (c .before .before .smallest-open .ensures _ (c .before .before .before .before .before .before .before .before .pre .5)) (c .enum-told .given .1), refl)
 
 same-length : tie.Need-same-length
 same-length c = search needs
@@ -47,8 +48,8 @@ returns-2 : tie.Need-returns-2
 returns-2 c =
     let o = c .before .before in
     let k = o .before .before .before .before in
-    let s = k .before .before .before .before .before .before .before in
-    settled-open _ _ _ _ _ _ (k .before .before .smallest-open .ensures) _ (k .k .given .1) _ _ (o .before .before .lowest-of .ensures) (s .pre .3) (s .pre .1) _ (o .open-choice .ensures)
+    let s = k .before .before .before .before .before .before .before .before in
+    (settled-open _ _ _ _ _ _ (k .before .before .smallest-open .ensures _ (s .pre .5)) _ (k .k .given .1) _ _ (o .before .before .lowest-of .ensures) (s .pre .3) (s .pre .1) _ (o .open-choice .ensures), refl)
 
 pub settle-spec : {M : Type 1} → statement M
 settle-spec =
@@ -61,7 +62,7 @@ settle-spec =
     cast-open-choice
     cast-open-choice-2
     open-choice-requires
-    add-t19
+    add-t20
     returns
     same-length
     returns-2)
