@@ -1,12 +1,12 @@
 -- The laws of what the search starts from and ends with: rows of 64 whose fronts are written, the first colours, the map of the closing check, the board
--- in cleared work, and the work cleared again. Assumes nothing.
-use Prim.Native.Nat.{ℕ, _+_, _-_, _<_, _≤_}
+-- in work with no counts, and the work cleared at the end. Assumes nothing.
+use Prim.Native.Nat.{ℕ, _+_, _-_, _≤_}
 use mathlib.Core.Path.{_≡_, refl, sym, _∙_, ap, ap₂, subst}
 use mathlib.Core.Bool.{Bool, true, false}
 use mathlib.Core.List.{List, [], _∷_, _++_}
 use native.Mathlib.Omega.{arith}
-use lib.ListN.{length, getD, take, drop, replicate, length-map, length-replicate, getD-replicate, List·getD-append}
-use lib.Seq.{length-take-le, length-front, getD-take, drop-at, drop-append-add, drop-drop}
+use lib.ListN.{length, getD, take, drop, replicate, length-map, length-drop}
+use lib.Seq.{length-take-le, length-front, getD-take, getD-drop, drop-append-add, drop-drop, ext-getD}
 use Rattle.lists.specs.Numbers.{upFrom}
 use Rattle.lists.specs.Part.{over}
 use Rattle.lists.proofs.Laws.Numbers.{length-upFrom}
@@ -21,7 +21,7 @@ use Rattle.rows.proofs.Laws.Given.{size-few}
 use Rattle.rows.proofs.Laws.Check.{length-blank}
 use Rattle.rounds.specs.Colours.{leftColours, rightColours}
 use Rattle.rounds.specs.Round.{Sides}
-use Rattle.rounds.specs.Board.{countStart, boardRoom, Empty, Board}
+use Rattle.rounds.specs.Board.{countStart, boardRoom, Empty, Cleared, Board}
 use Rattle.rounds.proofs.Laws.Colours.{length-left, length-right}
 use Rattle.search.specs.Partners.{PartnersOf}
 use Rattle.search.specs.Machine.{State, refine, imageOf, mapOf, closes, run}
@@ -30,7 +30,6 @@ use Rattle.search.specs.declared.answer.Answer.{Answer}
 use Rattle.search.specs.Find.{roundCost, startFrom}
 use Rattle.search.specs.Choices.{sidesIn, Rows, SmallSides, writtenIf}
 use Rattle.search.specs.Closing.{OneToOne}
-use Rattle.search.proofs.Laws.Work.{length-cleared}
 use Rattle.search.proofs.Theorems.Small.{start-small}
 
 -- a row of 64, with an entry for each element of a file in its front
@@ -156,19 +155,10 @@ module _ (s t : List ℕ) (l m : Layout) (p : Reads s l) (q : Reads t m) where
       row-still t m q other h' (rightColours b (take (l .size) left-row) g) new' (length-right b (take (l .size) left-row) g) w',
     )
 
--- cleared work: its entries, and what is left of it
-module _ (w : List ℕ) (n : ℕ) where
-  cleared-at : (i : ℕ) → i < n → getD (cleared n w) i 0 ≡ 0
-  unfolding cleared
-  cleared-at i h = List·getD-append (replicate n 0) (drop n w) 0 i (omega (arith, length-replicate {A = ℕ} n 0)) ∙ getD-replicate n i 0 0 h
-
-  cleared-rest : drop n (cleared n w) ≡ drop n w
-  unfolding cleared
-  cleared-rest = drop-at (replicate n 0) (drop n w) n (length-replicate n 0)
-
-  cleared-same : (v : List ℕ) → drop n v ≡ drop n w → cleared n v ≡ cleared n w
-  unfolding cleared
-  cleared-same v e = ap (λ (x : List ℕ). replicate n 0 ++ x) e
+-- clearing forgets what stands in front
+cleared-same : (w v : List ℕ) (n : ℕ) → drop n v ≡ drop n w → cleared n v ≡ cleared n w
+unfolding cleared
+cleared-same w v n e = ap (λ (x : List ℕ). replicate n 0 ++ x) e
 
 -- a front that comes back leaves what stands behind it
 behind : (b w : List ℕ) (n k : ℕ) → length b ≡ n → n ≤ k → drop k (b ++ drop n w) ≡ drop k w
@@ -177,22 +167,21 @@ behind b w n k e h =
     let j : n + (k - n) ≡ k = omega arith in
     ap (λ (x : ℕ). drop x (b ++ drop n w)) i ∙ drop-append-add b (drop n w) (k - n) ∙ drop-drop (k - n) n w ∙ ap (λ (x : ℕ). drop x w) j
 
--- the work of a search: cleared, with the board in its front
-module _ (w₀ w₁ : List ℕ) (room : workRoom ≤ length w₀) (e : w₁ ≡ cleared workRoom w₀) where
-  as-before : length w₁ ≡ length w₀
-  as-before = ap length e ∙ length-cleared w₀ workRoom room
-
+-- the work of a search: with no counts, and the board in its front
+module _ (w₀ w₁ : List ℕ) (room : workRoom ≤ length w₀) (k : Cleared 4096 w₀ w₁) where
   pub board-fits : boardRoom ≤ length w₁
-  board-fits = omega (arith, as-before)
+  board-fits = omega (arith, room, k .length-kept)
 
   pub board-long : length (take boardRoom w₁) ≡ boardRoom
   board-long = length-take-le boardRoom w₁ board-fits
 
-  board-zero : (i : ℕ) → i < boardRoom → getD (take boardRoom w₁) i 0 ≡ 0
-  board-zero i h = getD-take boardRoom w₁ i 0 h ∙ ap (λ (x : List ℕ). getD x i 0) e ∙ cleared-at w₀ workRoom i (omega arith)
-
   pub counts-empty : Empty countStart (take boardRoom w₁)
-  counts-empty n h = board-zero (countStart + n) (omega arith)
+  counts-empty n h = getD-take boardRoom w₁ (countStart + n) 0 (omega (arith, h)) ∙ k .cleared n h
+
+  rest-kept : drop workRoom w₁ ≡ drop workRoom w₀
+  rest-kept =
+      ext-getD 0 (drop workRoom w₁) (drop workRoom w₀) (length-drop workRoom w₁ ∙ omega (arith, k .length-kept, length-drop workRoom w₀))
+      (λ i l. getD-drop workRoom w₁ i 0 ∙ k .above (workRoom + i) (omega arith) ∙ sym (getD-drop workRoom w₀ i 0))
 
   -- with the board set up
   module _ (board : List ℕ) (long : length board ≡ length (take boardRoom w₁)) where
@@ -200,7 +189,7 @@ module _ (w₀ w₁ : List ℕ) (room : workRoom ≤ length w₀) (e : w₁ ≡ 
     board-there a b cells x = subst (Board a b cells) (sym (back-front boardRoom w₁ board board-fits long)) x
 
     still-as-before : length (board ++ drop boardRoom w₁) ≡ length w₀
-    still-as-before = length-front w₁ board boardRoom long ∙ as-before
+    still-as-before = length-front w₁ board boardRoom long ∙ k .length-kept
 
     pub work-room : workRoom ≤ length (board ++ drop boardRoom w₁)
     work-room = omega (arith, still-as-before)
@@ -213,7 +202,7 @@ module _ (w₀ w₁ : List ℕ) (room : workRoom ≤ length w₀) (e : w₁ ≡ 
       pub cleared-again : (w₃ : List ℕ) → w₃ ≡ cleared workRoom w₂ → w₃ ≡ cleared workRoom w₀
       cleared-again w₃ u =
           u
-          ∙ cleared-same w₀ workRoom w₂ (kept .1 ∙ behind board w₁ boardRoom workRoom (long ∙ board-long) (omega arith) ∙ ap (drop workRoom) e ∙ cleared-rest w₀ workRoom)
+          ∙ cleared-same w₀ w₂ workRoom (kept .1 ∙ behind board w₁ boardRoom workRoom (long ∙ board-long) (omega arith) ∙ rest-kept)
 
 -- the first colours are small
 pub first-small :

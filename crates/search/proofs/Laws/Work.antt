@@ -1,10 +1,9 @@
--- The laws of cleared work: nothing cleared, one entry more, a store below that is forgotten, twice is once, its length. Assumes nothing.
-use Prim.Native.Nat.{ℕ, _+_, _<_, _≤_}
+-- The laws of cleared work: nothing cleared, one entry more, a store below that is forgotten, twice is once. Assumes nothing.
+use Prim.Native.Nat.{ℕ, _+_, _<_}
 use mathlib.Core.Path.{_≡_}
 use mathlib.Core.List.{List}
-use native.Mathlib.Omega.{arith}
 use borrow.Author.Fill.{fill-none, fill-more}
-use lib.ListN.{length, drop, replicate, set, length-append, length-replicate, length-drop}
+use lib.ListN.{length, drop, replicate, set, length-replicate}
 use lib.Seq.{drop-set-lt, drop-at}
 use Rattle.search.specs.Answer.{cleared}
 
@@ -25,7 +24,3 @@ module _ (w : List ℕ) where
     pub cleared-twice : cleared n (cleared n w) ≡ cleared n w
     unfolding cleared
     cleared-twice = rw (drop-at (replicate n 0) (drop n w) n (length-replicate n 0))
-
-    pub length-cleared : n ≤ length w → length (cleared n w) ≡ length w
-    unfolding cleared
-    length-cleared h = simp (length-append, length-replicate, length-drop) (omega arith)
