@@ -1,4 +1,4 @@
-//! The same scenes on both sides, timed in one run.
+//! The same scenes on both sides, timed in one run; and what the port takes of the stack on them.
 //!
 //! The original's models are built before the clock starts; the port starts from bytes. Maps and pair lists are arguments of a call: bytes for the
 //! port, pairs of elements for the original, which makes its maps by `ModelHom::new` within the time. The two sides take turns, and the least time
@@ -13,6 +13,7 @@ use crate::models::random::{full, with_cells};
 use crate::models::{renumbered, renumbering, shuffled};
 use crate::port::Port;
 use crate::random::Random;
+use crate::stack;
 use crate::stored::Stored;
 use original::{find_isomorphism, find_isomorphism_under, find_with_fixed_pairs, Element, Fuel, ModelHom};
 use std::hint::black_box;
@@ -24,15 +25,22 @@ const TURNS: u32 = 5;
 
 pub fn run() {
     println!("{:42} {:>14} {:>14} {:>7}", "scene", "original (ns)", "port (ns)", "ratio");
-    let mut table = Table { port: Port::new(), slowest: None };
-    let mut random = Random::new(41);
-    for (name, left, right) in searches(&mut random) {
-        table.find(name, &File::of(&left), &File::of(&right));
-    }
-    table.ears(&mut random);
-    table.maps(&mut random);
+    let mut table = Table::new(false);
+    table.rows();
     let (ratio, name) = table.slowest.expect("a scene");
     println!("slowest ratio {ratio:.1} ({name})");
+}
+
+/// What a call may take of the stack, in bytes.
+const STACK: usize = 16 * 1024;
+
+/// What the port takes of the stack on each scene; tells whether it is always less than it may take.
+pub fn stack() -> bool {
+    println!("{:42} {:>14}", "scene", "stack (bytes)");
+    let mut table = Table::new(true);
+    table.rows();
+    println!("most stack {} bytes", table.most);
+    table.most < STACK
 }
 
 /// How the port's time grows with the cells and with the classes: the time of a search, and of a round in it.
@@ -93,17 +101,41 @@ fn searches(random: &mut Random) -> Vec<(&'static str, Stored, Stored)> {
 
 struct Table {
     port: Port,
+    /// Whether the stack is looked at, and not the time.
+    of_stack: bool,
     /// The least ratio so far, and its scene.
     slowest: Option<(f64, String)>,
+    /// The most stack so far.
+    most: usize,
 }
 
 impl Table {
+    fn new(of_stack: bool) -> Self {
+        Self { port: Port::new(), of_stack, slowest: None, most: 0 }
+    }
+
+    /// All scenes.
+    fn rows(&mut self) {
+        let mut random = Random::new(41);
+        for (name, left, right) in searches(&mut random) {
+            self.find(name, &File::of(&left), &File::of(&right));
+        }
+        self.ears(&mut random);
+        self.maps(&mut random);
+    }
+
     /// Times a scene, after both sides have been seen to agree on it, and prints its row.
     fn row<T>(&mut self, name: &str, call: &Call, original: impl FnMut() -> T) {
         let lent = ample(call);
         self.port.reset();
         self.port.ask(call, lent);
         assert!(self.port.said(call, lent, &expected::answer(call, lent)), "the sides differ on {name}");
+        if self.of_stack {
+            let used = stack::used(|| self.port.ask(black_box(call), lent));
+            println!("{name:42} {used:14}");
+            self.most = self.most.max(used);
+            return;
+        }
         let (theirs, ours) = fastest(original, &mut self.port, call, lent);
         let ratio = theirs as f64 / ours as f64;
         println!("{name:42} {theirs:14} {ours:14} {ratio:7.1}");
@@ -136,7 +168,7 @@ impl Table {
         });
     }
 
-    /// Check, inverse and compose of a renumbering of 2,048 cells.
+    /// Check, inverse, apply and compose of a renumbering of 2,048 cells.
     fn maps(&mut self, random: &mut Random) {
         let model = full(2, random);
         let to = renumbering(&model, random);
@@ -148,9 +180,24 @@ impl Table {
         let (there, again) = (elements(l, r, &pairs), elements(r, l, &pairs_of(&back)));
         self.row("check, 2,048 cells", &Call::Check { source: &left, target: &right, pairs: &pairs }, || made(l, r, &there));
         self.row("inverse, 2,048 cells", &Call::Inverse { source: &left, target: &right, map: &to }, || made(l, r, &there).inverse().is_ok());
+        let call = Call::Apply { source: &left, target: &right, map: &to, element: 0 };
+        self.row("apply, 2,048 cells", &call, || made(l, r, &there).apply(l.element(0)));
         let call = Call::Compose { source: &left, middle: &right, target: &left, first: &to, second: &back };
         self.row("compose, 2,048 cells", &call, || made(l, r, &there).then(&made(r, l, &again)).map(|map| map.iter().len()));
-        remark(&made(l, r, &there), &made(r, l, &again));
+        if !self.of_stack {
+            remark(&made(l, r, &there), &made(r, l, &again));
+            self.identity(&left);
+        }
+    }
+
+    /// Identity on both sides, a thousand calls at a time: the original's reads no row of its model, the port's reads and tests the file.
+    fn identity(&mut self, file: &File) {
+        let model = &file.known().model;
+        let call = Call::Identity { model: file };
+        let lent = ample(&call);
+        let theirs = fastest_of(|| (0..1000).for_each(|_| drop(black_box(ModelHom::identity(black_box(model))))));
+        let ours = fastest_of(|| (0..1000).for_each(|_| self.port.ask(black_box(&call), lent)));
+        println!("remark: identity, original {} ns, port {} ns", theirs / 1000, ours / 1000);
     }
 }
 

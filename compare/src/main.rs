@@ -9,6 +9,7 @@ mod line;
 mod models;
 mod port;
 mod random;
+mod stack;
 mod stored;
 mod vectors;
 
@@ -26,12 +27,14 @@ fn main() -> ExitCode {
             bench::growth();
             ExitCode::SUCCESS
         }
+        Some("stack") if bench::stack() => ExitCode::SUCCESS,
+        Some("stack") => ExitCode::FAILURE,
         Some("vectors") => {
             vectors::write().expect("the list could not be written");
             ExitCode::SUCCESS
         }
         _ => {
-            eprintln!("compare calls | bench | growth | vectors");
+            eprintln!("compare calls | bench | growth | stack | vectors");
             ExitCode::from(2)
         }
     }
