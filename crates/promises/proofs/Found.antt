@@ -3,35 +3,21 @@
 -- nor is it where there is no room. Assumes nothing.
 use Prim.Native.Nat.{ℕ}
 use mathlib.Core.Path.{_≡_, sym, _∙_, ap, subst}
-use mathlib.Core.Bool.{true}
 use mathlib.Core.List.{List, [], _∷_}
 use lib.ListN.{length}
 use Rattle.stored.specs.Model.{Model}
 use Rattle.stored.specs.Parse.{model, parse}
-use Rattle.stored.specs.Canonical.{canonical}
-use Rattle.stored.specs.Signature.{signature, sameSignature}
 use Rattle.search.specs.Machine as machine
 use Rattle.search.specs.Answer.{Outcome, ended, written}
 use Rattle.search.specs.Find.{findFiles}
 use Rattle.search.proofs.Laws.Answer.{found-by, written-found}
-use Rattle.search.proofs.Theorems.Partners.{AllGood}
 use Rattle.search.proofs.Theorems.Asked.{among-ended}
 use Rattle.search.proofs.Theorems.Ends.{Comparable, holds-formed}
 use Rattle.search.proofs.Theorems.Decides.{FoundInFiles, files-found}
 use Rattle.promises.specs.Isomorphism.{HonoursPairs, imageBy, FoundMap}
 use Rattle.promises.specs.Calls.{findSays, findWrites}
-use Rattle.promises.proofs.Laws.{of-models, map-in, wrote-map}
-
--- what is known of the input where find with pairs answers 0: canonical models of one signature, and pairs of known elements with like types
-pub record Asked (s t pairs : List ℕ) : Type 0 where
-  pub left : Model
-  pub right : Model
-  pub left-held : parse s ≡ model left
-  pub right-held : parse t ≡ model right
-  pub left-canonical : canonical left ≡ true
-  pub right-canonical : canonical right ≡ true
-  pub one-signature : sameSignature (signature left) (signature right) ≡ true
-  pub good-pairs : AllGood left right pairs
+use Rattle.promises.specs.Asked.{Asked}
+use Rattle.promises.proofs.Laws.{of-models, map-in, wrote-map, good-known}
 
 module _ (s t pairs : List ℕ) (budget : ℕ) (out work : List ℕ) (u : ℕ) (says : findSays s t pairs budget out work ≡ 0 ∷ u ∷ []) where
   abbrev after : List ℕ
@@ -56,19 +42,22 @@ module _ (s t pairs : List ℕ) (budget : ℕ) (out work : List ℕ) (u : ℕ) (
         honours = subst (λ (f : List ℕ). HonoursPairs (l .its-model) (r .its-model) pairs (imageBy f)) z (c .honours);
       })
 
-  pub found-only : Asked s t pairs
+  pub found-only : (a : Model) × (b : Model) × Asked s t pairs a b
   found-only =
       let c = in-files .call in
-      record {
-        left = c .left .its-model;
-        right = c .right .its-model;
-        left-held = c .left .parsed;
-        right-held = c .right .parsed;
-        left-canonical = c .comparable .left-canonical;
-        right-canonical = c .comparable .right-canonical;
-        one-signature = c .comparable .one-signature;
-        good-pairs = among-ended (c .left .its-model) (c .right .its-model) pairs budget (machine.found u (outcome .0)) (c .comes-to) .0;
-      }
+      let a = c .left .its-model in
+      let b = c .right .its-model in (
+        a,
+        b,
+        record {
+          left-held = c .left .parsed;
+          right-held = c .right .parsed;
+          left-canonical = c .comparable .left-canonical;
+          right-canonical = c .comparable .right-canonical;
+          one-signature = c .comparable .one-signature;
+          known-pairs = good-known a b pairs (among-ended a b pairs budget (machine.found u (outcome .0)) (c .comes-to) .0);
+        },
+      )
 
   pub found-comparable : (a b : Model) → parse s ≡ model a → parse t ≡ model b → Comparable a b
   found-comparable = let c = in-files .call in of-models s t (c .left) (c .right) Comparable (c .comparable)

@@ -1,4 +1,5 @@
--- What several rooms need: a file holds one model; an isomorphism as it is stated here is what the theory of the search speaks of; the two bounds are one. Assumes nothing.
+-- What several rooms need: a file holds one model; an isomorphism and pairs of known elements as they are stated here are what the theory of the search speaks of; the two bounds are one. Assumes
+-- nothing.
 use Prim.Native.Nat.{ℕ, zero, suc, _+_, _*_, max}
 use mathlib.Core.Path.{_≡_, sym, _∙_, ap, ap₂, subst}
 use mathlib.Core.Bool.{true, false}
@@ -12,12 +13,14 @@ use Rattle.stored.specs.Parse.{model, parse}
 use Rattle.stored.proofs.Laws.WellFormed.{WellFormed}
 use Rattle.rounds.proofs.Theorems.Keys.{reps-below}
 use Rattle.rounds.proofs.Theorems.Carrying.{CarriesSets, known-reps}
+use Rattle.search.proofs.Theorems.Partners.{AllGood}
 use Rattle.search.proofs.Theorems.Start.{KeepsTypes}
 use Rattle.search.proofs.Theorems.Sound.{Sound}
 use Rattle.search.proofs.Theorems.Ends.{Holds}
 use Rattle.search.proofs.Theorems.Numbers.{nodes, searchBound, nodes-zero, nodes-one, nodes-more, search-bound}
 use Rattle.promises.specs.Isomorphism.{Isomorphism, imageBy, mapIn, Wrote}
 use Rattle.promises.specs.Bound.{N, bound}
+use Rattle.promises.specs.Asked.{KnownPairs}
 
 -- a file holds one model
 pub one-model : (s : List ℕ) (h : Holds s) (a : Model) → parse s ≡ model a → h .its-model ≡ a
@@ -61,6 +64,14 @@ module _ (a b : Model) (wa : WellFormed a) (wb : WellFormed b) (g before after :
         only-at-alias = subst (λ (f : List ℕ). (x : ℕ) → isRep a x ≡ true → imageBy f x ≡ 255 → ⊥) z (λ x r n.
             omega (arith, wb .few-elements, reps-below b (imageBy g x) (sound .carries .to-rep x (known-reps a wa x r)), n));
       }
+
+-- pairs of known elements with like types are the good pairs of the search's theory
+module _ (a b : Model) (pairs : List ℕ) where
+  pub good-known : AllGood a b pairs → KnownPairs a b pairs
+  good-known good j l = let p = good j l in (p .left-known, p .right-known, p .one-type)
+
+  pub known-good : KnownPairs a b pairs → AllGood a b pairs
+  known-good known j l = let p = known j l in record { left-known = p .0; right-known = p .1; one-type = p .2 }
 
 -- N and the bound are those of the search's theory
 pub N-nodes : (r : ℕ) → N r ≡ nodes r

@@ -13,16 +13,16 @@ use Rattle.stored.specs.Parse.{model, parse}
 use Rattle.rounds.specs.Round.{reps, Sides, again, roundOutcome, colourCount}
 use Rattle.rounds.proofs.Theorems.Classes.{again-raises}
 use Rattle.search.specs.Partners.{Partners, partners, clash, partnersOf}
-use Rattle.search.specs.Machine.{Choice, State, refine, Ended, found, none, exhausted}
+use Rattle.search.specs.Machine.{Choice, State, refine, openIn, Ended, found, none, exhausted}
 use Rattle.search.specs.Answer.{numbers, Outcome, ended, answerOf}
 use Rattle.search.specs.Find.{roundCost, alike, searched, findAmong, pairsUnder, findFiles, underFiles}
 use Rattle.search.proofs.Laws.Answer.{found-by, none-by, exhausted-by, numbers-none}
 use Rattle.search.proofs.Laws.Find.{searched-run}
 use Rattle.search.proofs.Theorems.Asked.{among-ended, searched-clash, searched-unlike}
-use Rattle.search.proofs.Theorems.Choices.{openIn, open-choices-from-start}
+use Rattle.search.proofs.Theorems.Choices.{open-choices-from-start}
 use Rattle.search.proofs.Theorems.Ends.{files-ended, under-ended}
 use Rattle.promises.specs.Calls.{findSays, underSays}
-use Rattle.promises.specs.Search.{Comes, Runs}
+use Rattle.promises.specs.Search.{Comes, Runs, NoneOrRuns}
 use Rattle.promises.proofs.Laws.{of-models}
 use Rattle.promises.proofs.UnderABase.{of-three}
 
@@ -68,10 +68,6 @@ among-runs a b pairs budget e q = by-partners (partnersOf a b pairs) refl
           partnered = z;
           comes-to = ap ended (sym comes ∙ ap (searched a b budget) z ∙ searched-run a b budget f g k);
         })
-
--- none with 0 units, or a run
-abbrev pub NoneOrRuns : List ℕ → Model → Model → ℕ → Outcome → ℕ → ℕ → Type 0
-NoneOrRuns pairs a b budget o n u = ((n ≡ 1) × (u ≡ 0)) ⊎ Runs pairs a b budget o
 
 none-or-runs :
     (a b : Model) (pairs : List ℕ) (budget : ℕ) (o : Outcome) (n u : ℕ) (e : Ended) → numbers (answerOf o) ≡ n ∷ u ∷ [] → o ≡ ended e → findAmong a b pairs budget ≡ ended e

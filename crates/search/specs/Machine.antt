@@ -1,5 +1,6 @@
 -- The search as a machine: rules 2 to 5, every step with the units it takes. "one unit for each round, candidate looked at and closing check".
 use Prim.Native.Nat.{ℕ, zero, suc, _+_, _-_}
+use mathlib.Core.Path.{_≡_}
 use mathlib.Core.Bool.{Bool, true, false, _&&_}
 use mathlib.Core.List.{List, [], _∷_, map}
 use lib.ListN.{length, set}
@@ -27,6 +28,13 @@ pub data State : Type 0 where
   close : Sides → List Choice → State
   choose : List Choice → State
   done : List ℕ → State
+
+-- the open choices of a state, the latest first
+abbrev pub openIn : State → List Choice
+openIn (refine c choices) = choices
+openIn (close c choices) = choices
+openIn (choose choices) = choices
+openIn (done f) = []
 
 -- the answer is there, or a step takes so many units and leads on
 pub data Step : Type 0 where
@@ -96,6 +104,11 @@ step roundCost a b (refine c choices) = takes roundCost (afterRound a b choices 
 step roundCost a b (close c choices) = takes 1 (afterClosing choices (mapOf a b c) (closes a b (mapOf a b c)))
 step roundCost a b (choose choices) = nextChoice choices
 step roundCost a b (done f) = there f
+
+-- the states that steps lead to from a state, as many as one likes
+pub data Reached (roundCost : ℕ) (a b : Model) (start : State) : State → Type 0 where
+  here : Reached roundCost a b start start
+  next : (s : State) → Reached roundCost a b start s → (n : ℕ) (t : State) → step roundCost a b s ≡ takes n t → Reached roundCost a b start t
 
 -- what a run comes to, with the units used
 pub data Ended : Type 0 where

@@ -30,7 +30,7 @@ use Rattle.search.specs.declared.answer.Answer as answered
 use Rattle.search.specs.declared.answer.Answer.the-variants as answer
 use Rattle.search.specs.declared.machine.Phase.{Phase}
 use Rattle.search.specs.declared.machine.Phase.the-variants as phase
-use Rattle.search.specs.Machine.{Choice, State, refine, close, choose, done, Step, there, nowhere, takes, mapOf, closes, afterRound, afterClosing, goneOn, nextChoice, step, Ended, found, none, exhausted, run}
+use Rattle.search.specs.Machine.{Choice, State, refine, close, choose, done, openIn, Step, there, nowhere, takes, mapOf, closes, afterRound, afterClosing, goneOn, nextChoice, step, Reached, here, next, Ended, found, none, exhausted, run}
 use Rattle.search.specs.Answer.{answerOf, written, workRoom, ended}
 use Rattle.search.specs.Find.{alike}
 use Rattle.search.specs.Closing.{OneToOne}
@@ -38,12 +38,11 @@ use Rattle.search.specs.Choices.{choiceLength, choicesOn, choiceIn, cand
 use Rattle.search.proofs.Laws.Run.{run-there, run-nowhere, run-takes, run-out}
 use Rattle.search.proofs.Laws.Refine.{choose-no-round}
 use Rattle.search.proofs.Laws.Choices.{choice-goes, next-none, next-same, next-other}
-use Rattle.search.proofs.Theorems.Invariant.{Reached, here, next}
 use Rattle.search.proofs.Theorems.Steps.{reached-sound}
 use Rattle.search.proofs.Theorems.Onto.{AlikeModels}
 use Rattle.search.proofs.Theorems.Sound.{settled-one-to-one}
 use Rattle.search.proofs.Theorems.Small.{reached-small}
-use Rattle.search.proofs.Theorems.Choices.{openIn, Rising, Risen, trial-count, reached-rising, open-choices}
+use Rattle.search.proofs.Theorems.Choices.{Rising, Risen, trial-count, reached-rising, open-choices}
 
 -- the rest of a run from some colours with no open choice, after so many units
 module _ (a b : Model) (budget : ℕ) (start : Sides) where

@@ -9,9 +9,9 @@ use Rattle.stored.specs.Model.{Model}
 use Rattle.rounds.specs.Round.{reps, Sides, stable, roundOutcome, colourCount}
 use Rattle.rounds.specs.Classes.{openAt, smallestOpen}
 use Rattle.rounds.proofs.Theorems.Classes.{again-raises, stable-keeps, open-some, open-below, trial-raises}
-use Rattle.search.specs.Machine.{Choice, State, refine, close, choose, done, choiceAt, goneOn, tried}
+use Rattle.search.specs.Machine.{Choice, State, refine, close, choose, done, openIn, choiceAt, goneOn, tried, Reached}
 use Rattle.search.specs.Find.{startFrom}
-use Rattle.search.proofs.Theorems.Invariant.{Kept, Reached, when-reached}
+use Rattle.search.proofs.Theorems.Invariant.{Kept, when-reached}
 use Rattle.search.proofs.Theorems.Steps.{Opened, just-opened, still-opened}
 
 -- the latest open choice has fewer colours
@@ -22,13 +22,6 @@ Above n (e ∷ choices) = e .new < n
 above-more : (m n : ℕ) (choices : List Choice) → m ≤ n → Above m choices → Above n choices
 above-more m n [] h k = tt
 above-more m n (e ∷ choices) h k = omega arith
-
--- the open choices of a state
-abbrev pub openIn : State → List Choice
-openIn (refine c choices) = choices
-openIn (close c choices) = choices
-openIn (choose choices) = choices
-openIn (done f) = []
 
 module _ (a b : Model) where
   -- what is known of an open choice and those below it

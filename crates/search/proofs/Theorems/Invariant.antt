@@ -13,7 +13,7 @@ use Rattle.rounds.specs.Colours.{colourAt}
 use Rattle.rounds.specs.Round.{Sides, Outcome, dead, stable, again, roundOutcome}
 use Rattle.rounds.specs.Classes.{Open, allSingle, openAt, smallestOpen}
 use Rattle.search.specs.Machine.{Choice, State, refine, close, choose, done, Step, there, nowhere, takes}
-use Rattle.search.specs.Machine.{mapOf, closes, choiceAt, afterStable, afterRound, afterClosing, goneOn, tried, tryCandidate, nextChoice, step, Ended, found, none, exhausted, run}
+use Rattle.search.specs.Machine.{mapOf, closes, choiceAt, afterStable, afterRound, afterClosing, goneOn, tried, tryCandidate, nextChoice, step, Reached, here, next, Ended, found, none, exhausted, run}
 use Rattle.search.proofs.Laws.Run.{run-there, run-nowhere, run-takes, run-short, run-out}
 
 -- a property of states that every kind of step keeps
@@ -32,11 +32,6 @@ pub record Kept (a b : Model) (Holds : State → Type 0) : Type 0 where
   pub passes-by :
       (e : Choice) (y : ℕ) (ys : List ℕ) (choices : List Choice) → Holds (choose (e ∷ choices)) → e .rest ≡ y ∷ ys → (colourAt (e .sides .right) y ≡ e .old → ⊥)
       → Holds (choose (goneOn e ys ∷ choices))
-
--- the states that are reached from a state
-pub data Reached (w : ℕ) (a b : Model) (start : State) : State → Type 0 where
-  here : Reached w a b start start
-  next : (s : State) → Reached w a b start s → (n : ℕ) (t : State) → step w a b s ≡ takes n t → Reached w a b start t
 
 module _ (a b : Model) (Holds : State → Type 0) (kept : Kept a b Holds) where
   abbrev AfterStep : Step → Type 0

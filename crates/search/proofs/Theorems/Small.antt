@@ -22,11 +22,11 @@ use Rattle.rounds.proofs.Theorems.Classes.{count-fits}
 use Rattle.rounds.proofs.Theorems.Single.{stable-round, again-round}
 use Rattle.rounds.proofs.Theorems.Small.{small-each, set-small, round-small}
 use Rattle.rounds.proofs.Theorems.Starting.{left-free, left-paired, right-free, right-paired}
-use Rattle.search.specs.Machine.{Choice, State, refine, close, choose, done, tried}
+use Rattle.search.specs.Machine.{Choice, State, refine, close, choose, done, tried, Reached}
 use Rattle.search.specs.Partners.{PartnersOf}
 use Rattle.search.specs.Choices.{SmallSides}
 use Rattle.search.proofs.Laws.Types.{type-below}
-use Rattle.search.proofs.Theorems.Invariant.{Kept, Reached, when-reached}
+use Rattle.search.proofs.Theorems.Invariant.{Kept, when-reached}
 use Rattle.search.proofs.Theorems.Steps.{Opened, AllOpened, just-opened, still-opened}
 use Rattle.search.proofs.Theorems.Partners.{AllGood, Matched, all-good, are-matched}
 use Rattle.search.proofs.Theorems.Start.{firstSides, named-rep}

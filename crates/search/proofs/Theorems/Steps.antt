@@ -10,10 +10,10 @@ use Rattle.lists.proofs.Laws.Tests.{split}
 use Rattle.stored.specs.Model.{Model}
 use Rattle.rounds.specs.Round.{reps, Sides, stable, roundOutcome, colourCount}
 use Rattle.rounds.specs.Classes.{allSingle, openAt, smallestOpen, lowestOf}
-use Rattle.search.specs.Machine.{Choice, State, refine, close, choose, done, mapOf, closes, choiceAt, goneOn, found, none, run}
+use Rattle.search.specs.Machine.{Choice, State, refine, close, choose, done, mapOf, closes, choiceAt, goneOn, found, none, run, Reached}
 use Rattle.search.specs.Partners.{Partners, partners, clash}
 use Rattle.search.specs.Find.{roundCost, alike, startFrom, searched}
-use Rattle.search.proofs.Theorems.Invariant.{Kept, Reached, when-reached, when-found}
+use Rattle.search.proofs.Theorems.Invariant.{Kept, when-reached, when-found}
 
 module _ (a b : Model) where
   -- colours that a round made stable, all single on the left
