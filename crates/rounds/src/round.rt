@@ -2,15 +2,14 @@
 ghost use mathlib.Core.Path.{_≡_};
 ghost use mathlib.Core.Bool.{true};
 ghost use mathlib.Core.List.{[]};
-ghost use Prim.Native.Nat.{ℕ, _≤_};
+ghost use Prim.Native.Nat.{_+_, _≤_};
 ghost use lib.ListN.{length, getD, take};
-ghost use Rattle.lists.specs.Part.{over};
 ghost use Rattle.stored.specs.Model.{size};
 ghost use Rattle.stored.specs.Signature.{signature, sameSignature};
 ghost use Rattle.stored.specs.Reading.{Reads, modelOf};
 ghost use Rattle.rounds.specs.Round.{Sides};
 ghost use Rattle.rounds.specs.Round as rounds;
-ghost use Rattle.rounds.specs.Board.{boardRoom, countStart, Empty, Board, Prepared};
+ghost use Rattle.rounds.specs.Board.{boardRoom, countStart, overAt, Empty, Board, Prepared};
 use crate::board::lay;
 use crate::board::list_cells;
 use crate::group::group_sides;
@@ -37,14 +36,14 @@ pub fn set_up(
     cells
 }
 
-// Writes colours over the front of `out`.
-fn write_colours(colours: &[u16], out: &mut [u16])
-    requires { ⌜ length (now colours) ≤ length (now out) ⌝ }
-    ensures { λ _. ⌜ now (out .exit) ≡ over (now (colours .entry)) (now (out .entry)) ⌝ }
+// Writes colours on the board, from a place on.
+fn write_colours(colours: &[u16], board: &mut [u16], start: usize)
+    requires { ⌜ (length (now board) ≡ boardRoom) × (start + length (now colours) ≤ boardRoom) ⌝ }
+    ensures { λ _. ⌜ now (board .exit) ≡ overAt start (now (colours .entry)) (now (board .entry)) ⌝ }
 {
     let mut x: usize = 0;
     while x < colours.len() {
-        out[x] = colours[x];
+        board[start + x] = colours[x];
         x += 1;
     }
 }
@@ -63,8 +62,8 @@ fn prepare(
     requires { ⌜ Reads (now left) «in_left» × Reads (now right) «in_right» × (sameSignature (signature (modelOf (now left))) (signature (modelOf (now right))) ≡ true) × Board (modelOf (now left)) (modelOf (now right)) cells (now board) × (length (now «left_colours») ≡ size (modelOf (now left))) × (length (now «right_colours») ≡ size (modelOf (now right))) ⌝ }
     ensures { λ _. ⌜ Prepared (modelOf (now (left .entry))) (modelOf (now (right .entry))) cells (now («left_colours» .entry)) (now («right_colours» .entry)) (now (board .exit)) ⌝ }
 {
-    write_colours(left_colours, &mut board[COLOURS..]);
-    write_colours(right_colours, &mut board[OTHER_COLOURS..]);
+    write_colours(left_colours, board, COLOURS);
+    write_colours(right_colours, board, OTHER_COLOURS);
     number_cells(left, in_left, right, in_right, board, cells);
 }
 

@@ -1,17 +1,17 @@
 -- The board: colours and lines read from it, and what a write leaves of it. Assumes nothing.
 use Prim.Native.Nat.{ℕ, zero, suc, _+_, _-_, _<_, _≤_}
 use mathlib.Core.Path.{_≡_, refl, sym, _∙_, ap}
-use mathlib.Core.List.{List, [], _∷_, _++_, append-assoc, append-nil}
+use mathlib.Core.List.{List, [], _∷_, _++_, append-assoc}
+use native.Mathlib.Nat.{zero-add, suc-add}
 use native.Mathlib.Omega.{arith}
-use lib.ListN.{length, getD, take, drop, length-drop, length-append, drop-of-length-le}
+use lib.ListN.{length, getD, set, take, drop, length-drop, length-append, take-append-drop}
 use lib.Seq.{getD-drop, length-take-le, drop-at, take-append-le, take-take, drop-drop, getD-append-add}
 use Rattle.lists.specs.Part.{part, over}
 use Rattle.lists.proofs.Laws.Every.{getD-inside}
-use Rattle.lists.proofs.Laws.Part.{length-part, getD-part, part-rest}
-use Rattle.lists.proofs.Laws.Over.{length-over, getD-over}
+use Rattle.lists.proofs.Laws.Part.{length-part, getD-part}
+use Rattle.lists.proofs.Laws.Over.{Written, written-none, written-length, written-more, written-all, length-over, getD-over, over-split}
 use Rattle.rounds.specs.Colours.{noColour, colourAt}
 use Rattle.rounds.specs.Board.{colourStart, lineOf, lineAt, overAt}
-use Rattle.lists.proofs.Laws.Over.{over-split}
 
 -- the colour of an element that has one on the board
 pub colour-there : (w : List ℕ) (x : ℕ) → colourStart + x < length w → getD w (colourStart + x) 0 ≡ colourAt (drop colourStart w) x
@@ -78,9 +78,38 @@ module _ (start : ℕ) (new old : List ℕ) (fits : start + length new ≤ lengt
       let e : length (take start old) + i ≡ start + i = omega (arith, front-long) in
       rw e at (getD-append-add (take start old) (over new (drop start old)) i 0) ∙ getD-over new (drop start old) i 0 h
 
--- a part lent from a place on, written, and given back
-pub overAt-lent : (start k : ℕ) (new w back : List ℕ) → length w ≤ start + k → back ≡ over new (part w start (length w - start)) → take start w ++ (back ++ drop k (drop start w)) ≡ overAt start new w
-unfolding overAt
-overAt-lent start k new w back h e =
-    ap (λ (t : List ℕ). take start w ++ t)
-    (ap (λ (t : List ℕ). back ++ t) (drop-of-length-le (drop start w) {i = k} (omega (arith, h, length-drop start w))) ∙ append-nil back ∙ e ∙ ap (over new) (part-rest w start))
+-- a store behind a list
+set-behind : (xs ys : List ℕ) (i v : ℕ) → set (xs ++ ys) (length xs + i) v ≡ xs ++ set ys i v
+set-behind [] ys i v = ap (λ (n : ℕ). set ys n v) (zero-add i)
+set-behind (x ∷ xs) ys i v = ap (λ (n : ℕ). set (x ∷ (xs ++ ys)) n v) (suc-add (length xs) i) ∙ ap (λ (t : List ℕ). x ∷ t) (set-behind xs ys i v)
+
+-- the first j numbers of a list are written over another from a place on
+pub record WrittenAt (start : ℕ) (new old out : List ℕ) (j : ℕ) : Type 0 where
+  pub fits : start + length new ≤ length old
+  pub behind : List ℕ
+  pub split : out ≡ take start old ++ behind
+  pub written : Written new (drop start old) behind j
+
+pub written-at-none : (start : ℕ) (new old : List ℕ) → start + length new ≤ length old → WrittenAt start new old old 0
+written-at-none start new old h = record { fits = h; behind = drop start old; split = sym (take-append-drop start old); written = written-none new (drop start old) (back-fits start new old h) }
+
+module _ (start : ℕ) (new old out : List ℕ) (j : ℕ) (at : WrittenAt start new old out j) where
+  pub written-at-length : length out ≡ length old
+  written-at-length =
+      ap length (at .split)
+      ∙ length-append (take start old) (at .behind)
+      ∙ omega (arith, front-long start new old (at .fits), written-length (at .written), length-drop start old, at .fits)
+
+  pub written-at-more : j < length new → WrittenAt start new old (set out (start + j) (getD new j 0)) (j + 1)
+  written-at-more h =
+      let e : length (take start old) + j ≡ start + j = omega (arith, front-long start new old (at .fits)) in
+      record {
+        fits = at .fits;
+        behind = set (at .behind) j (getD new j 0);
+        split = ap (λ (l : List ℕ). set l (start + j) (getD new j 0)) (at .split) ∙ rw e at (set-behind (take start old) (at .behind) j (getD new j 0));
+        written = written-more (at .written) 0 (getD new j 0) h refl;
+      }
+
+  pub written-at-all : length new ≤ j → out ≡ overAt start new old
+  unfolding overAt
+  written-at-all h = at .split ∙ ap (λ (t : List ℕ). take start old ++ t) (written-all (at .written) h)

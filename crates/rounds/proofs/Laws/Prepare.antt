@@ -3,20 +3,19 @@
 use Prim.Native.Nat.{ℕ, _+_, _-_, _<_, _≤_}
 use mathlib.Core.Path.{_≡_, sym, _∙_, ap, ap₂}
 use mathlib.Core.Bool.{true}
-use mathlib.Core.List.{List, _++_}
+use mathlib.Core.List.{List}
 use native.Mathlib.Omega.{arith}
 use lib.ListN.{length, getD, take, drop}
 use lib.Seq.{getD-take, getD-drop, getD-append-add}
-use Rattle.lists.specs.Part.{part, over}
+use Rattle.lists.specs.Part.{over}
 use Rattle.lists.proofs.Laws.Every.{getD-inside}
 use Rattle.lists.proofs.Laws.Over.{over-split, over-front, length-over, getD-over}
-use Rattle.lists.proofs.Laws.Part.{length-part}
 use Rattle.stored.specs.Model.{Model, size}
 use Rattle.stored.specs.Signature.{signature, sameSignature}
 use Rattle.stored.proofs.Laws.WellFormed.{WellFormed}
 use Rattle.rounds.specs.Colours.{noColour, colourAt}
 use Rattle.rounds.specs.Board.{boardRoom, numberStart, countStart, linkStart, startStart, colourStart, raised, joined, cellsOf, numbersFrom, overAt, picked, cellsOn, coloursOn, Elements, Listed, Relisted, NumbersAt, Renumbered, Empty, Board, Prepared}
-use Rattle.rounds.proofs.Laws.Board.{colour-there, overAt-length, overAt-before, overAt-later, overAt-entry, overAt-lent}
+use Rattle.rounds.proofs.Laws.Board.{colour-there, overAt-length, overAt-before, overAt-later, overAt-entry}
 use Rattle.rounds.proofs.Laws.Cells.{cells-few, cells-known}
 use Rattle.rounds.proofs.Laws.Joined.{joined-even}
 use Rattle.rounds.proofs.Laws.Listed.{same-cells, cells-around, listed-around, listed-places}
@@ -50,10 +49,6 @@ module _ (start : ℕ) (new old out : List ℕ) (fits : start + length new ≤ l
 
   out-entry : (i : ℕ) → i < length new → getD out (start + i) 0 ≡ getD new i 0
   out-entry i h = ap (λ (l : List ℕ). getD l (start + i) 0) is ∙ overAt-entry start new old fits i h
-
--- the board after all of it from a place on was lent, written, and given back
-pub rest-lent : (start : ℕ) (new w back : List ℕ) → back ≡ over new (part w start (length w - start)) → take start w ++ (back ++ drop (length w - start) (drop start w)) ≡ overAt start new w
-rest-lent start new w back e = overAt-lent start (length w - start) new w back (omega arith) e
 
 -- two boards are the same but for the numbers, the links and the colours
 pub record Around (w v : List ℕ) : Type 0 where
@@ -90,24 +85,24 @@ module _ (a b : Model) (cells : ℕ) (w left right : List ℕ) (g : Given a b ce
   right-few : length right ≤ 64
   right-few = omega (arith, g .right-many, g .right-formed .few-elements)
 
-  pub left-fits : length left ≤ length (part w 20608 (length w - 20608))
-  left-fits = omega (arith, long, left-few, length-part w 20608 (length w - 20608) (omega (arith, long)))
+  pub left-fits : (length w ≡ boardRoom) × (20608 + length left ≤ boardRoom)
+  left-fits = (long, omega (arith, left-few))
 
   module _ (w₁ : List ℕ) (is₁ : w₁ ≡ overAt 20608 left w) where
     left-inside : 20608 + length left ≤ length w
     left-inside = omega (arith, long, left-few)
 
-    pub long₁ : length w₁ ≡ 20736
+    long₁ : length w₁ ≡ 20736
     long₁ = out-long 20608 left w w₁ left-inside is₁ ∙ long
 
-    pub right-fits : length right ≤ length (part w₁ 20672 (length w₁ - 20672))
-    right-fits = omega (arith, long₁, right-few, length-part w₁ 20672 (length w₁ - 20672) (omega (arith, long₁)))
+    pub right-fits : (length w₁ ≡ boardRoom) × (20672 + length right ≤ boardRoom)
+    right-fits = (long₁, omega (arith, right-few))
 
     module _ (w₂ : List ℕ) (is₂ : w₂ ≡ overAt 20672 right w₁) where
       right-inside : 20672 + length right ≤ length w₁
       right-inside = omega (arith, long₁, right-few)
 
-      pub long₂ : length w₂ ≡ 20736
+      long₂ : length w₂ ≡ 20736
       long₂ = out-long 20672 right w₁ w₂ right-inside is₂ ∙ long₁
 
       kept₂ : (i : ℕ) → i < colourStart → getD w₂ i 0 ≡ getD w i 0

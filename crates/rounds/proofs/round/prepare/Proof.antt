@@ -3,8 +3,6 @@ use Prim.Native.Nat.{ℕ}
 use mathlib.Core.Path.{_≡_}
 use mathlib.Core.Bool.{true}
 use mathlib.Core.List.{List}
-use native.Mathlib.Omega.{arith}
-use borrow.Author.Needs.{needs}
 use lib.ListN.{length}
 use Rattle.stored.specs.declared.layout.Layout.{Layout}
 use Rattle.stored.specs.Model.{size}
@@ -12,7 +10,7 @@ use Rattle.stored.specs.Signature.{signature, sameSignature}
 use Rattle.stored.specs.Reading.{Reads, modelOf}
 use Rattle.stored.proofs.Laws.Reading.{reads-formed}
 use Rattle.rounds.specs.Board.{Board}
-use Rattle.rounds.proofs.Laws.Prepare.{Given, rest-lent, left-fits, long₁, right-fits, coloured, same-long, prepared}
+use Rattle.rounds.proofs.Laws.Prepare.{Given, left-fits, right-fits, coloured, same-long, prepared}
 use Rattle.rounds.proofs.round.prepare.Statement.{statement}
 use Rattle.rounds.proofs.round.prepare.Tie as tie
 
@@ -23,15 +21,6 @@ given :
     → Given (modelOf s) (modelOf t) cells w left right
 given left right p = record { formed = reads-formed _ _ (p .0); right-formed = reads-formed _ _ (p .1); one = p .2; board = p .3; many = p .4; right-many = p .5 }
 
-sub-write-colours : tie.Need-sub-write-colours
-sub-write-colours c = search needs
-
-part-write-colours-start : tie.Need-part-write-colours-start
-part-write-colours-start c = search needs
-
-part-write-colours-end : tie.Need-part-write-colours-end
-part-write-colours-end c = search needs
-
 write-colours-requires : tie.Need-write-colours-requires
 write-colours-requires c κs =
     let p = c .before .before .before .before .before .before .pre in
@@ -39,36 +28,19 @@ write-colours-requires c κs =
     let g = given (a .left-colours .now) (a .right-colours .now) p in
     left-fits _ _ _ _ _ _ g
 
-sub-write-colours-2 : tie.Need-sub-write-colours-2
-sub-write-colours-2 c = search needs
-
-part-write-colours-start-2 : tie.Need-part-write-colours-start-2
-part-write-colours-start-2 c =
-    let p = c .before .before .before .before .before .before .before .before .before .pre in
-    let a = c .before .before .before .before .before .before .before .before .before .args in
-    let g = given (a .left-colours .now) (a .right-colours .now) p in
-    let f = rest-lent 20608 (a .left-colours .now) (a .board .now) _ (c .before .before .write-colours .ensures) in
-    omega (arith, long₁ _ _ _ _ _ _ g _ f)
-
-part-write-colours-end-2 : tie.Need-part-write-colours-end-2
-part-write-colours-end-2 c = search needs
-
 write-colours-requires-2 : tie.Need-write-colours-requires-2
 write-colours-requires-2 c κs =
     let p = c .before .before .before .before .before .before .before .before .before .before .pre in
     let a = c .before .before .before .before .before .before .before .before .before .before .args in
     let g = given (a .left-colours .now) (a .right-colours .now) p in
-    let f = rest-lent 20608 (a .left-colours .now) (a .board .now) _ (c .before .before .before .write-colours .ensures) in
-    right-fits _ _ _ _ _ _ g _ f
+    right-fits _ _ _ _ _ _ g _ (c .before .before .before .write-colours .ensures)
 
 number-cells-requires : tie.Need-number-cells-requires
 number-cells-requires c κs =
     let p = c .before .before .before .before .before .before .before .before .before .before .before .before .before .before .pre in
     let a = c .before .before .before .before .before .before .before .before .before .before .before .before .before .before .args in
     let g = given (a .left-colours .now) (a .right-colours .now) p in
-    let f = rest-lent 20608 (a .left-colours .now) (a .board .now) _ (c .before .before .before .before .before .before .before .write-colours .ensures) in
-    let h = rest-lent 20672 (a .right-colours .now) _ _ (c .before .before .before .write-colours2 .ensures) in
-    let b = coloured _ _ _ _ _ _ g _ f _ h in
+    let b = coloured _ _ _ _ _ _ g _ (c .before .before .before .before .before .before .before .write-colours .ensures) _ (c .before .before .before .write-colours2 .ensures) in
     (p .0, p .1, p .2, b .listed, b .empty, b .as-many, b .laid)
 
 same-length : tie.Need-same-length
@@ -76,30 +48,20 @@ same-length c =
     let p = c .before .before .before .before .before .before .before .before .before .before .before .before .before .before .before .before .before .pre in
     let a = c .before .before .before .before .before .before .before .before .before .before .before .before .before .before .before .before .before .args in
     let g = given (a .left-colours .now) (a .right-colours .now) p in
-    let f = rest-lent 20608 (a .left-colours .now) (a .board .now) _ (c .before .before .before .before .before .before .before .before .before .before .write-colours .ensures) in
-    let h = rest-lent 20672 (a .right-colours .now) _ _ (c .before .before .before .before .before .before .write-colours2 .ensures) in
-    same-long _ _ _ _ _ _ g _ f _ h _ (c .before .before .number-cells .ensures .0) (c .before .before .number-cells .ensures .1)
+    same-long _ _ _ _ _ _ g _ (c .before .before .before .before .before .before .before .before .before .before .write-colours .ensures) _ (c .before .before .before .before .before .before .write-colours2 .ensures) _ (c .before .before .number-cells .ensures .0) (c .before .before .number-cells .ensures .1)
 
 returns : tie.Need-returns
 returns c =
     let p = c .before .before .before .before .before .before .before .before .before .before .before .before .before .before .before .before .before .pre in
     let a = c .before .before .before .before .before .before .before .before .before .before .before .before .before .before .before .before .before .args in
     let g = given (a .left-colours .now) (a .right-colours .now) p in
-    let f = rest-lent 20608 (a .left-colours .now) (a .board .now) _ (c .before .before .before .before .before .before .before .before .before .before .write-colours .ensures) in
-    let h = rest-lent 20672 (a .right-colours .now) _ _ (c .before .before .before .before .before .before .write-colours2 .ensures) in
-    prepared _ _ _ _ _ _ g _ f _ h _ (c .before .before .number-cells .ensures .0) (c .before .before .number-cells .ensures .1)
+    prepared _ _ _ _ _ _ g _ (c .before .before .before .before .before .before .before .before .before .before .write-colours .ensures) _ (c .before .before .before .before .before .before .write-colours2 .ensures) _ (c .before .before .number-cells .ensures .0) (c .before .before .number-cells .ensures .1)
 
 pub prepare-spec : {M : Type 1} → statement M
 prepare-spec =
     tie.close
     (tie.spec
-    sub-write-colours
-    part-write-colours-start
-    part-write-colours-end
     write-colours-requires
-    sub-write-colours-2
-    part-write-colours-start-2
-    part-write-colours-end-2
     write-colours-requires-2
     number-cells-requires
     same-length
