@@ -220,7 +220,7 @@ fn number_twos(board: &mut [u16], cells: usize, base: usize, rows: usize)
 }
 
 // Empties the first so many entries of the table of counts.
-fn clear_heads(board: &mut [u16], count: usize)
+pub(crate) fn clear_heads(board: &mut [u16], count: usize)
     requires { ⌜ (length (now board) ≡ boardRoom) × (count ≤ 4096) ⌝ }
     ensures { λ _. ⌜ Cleared count (now (board .entry)) (now (board .exit)) ⌝ }
 {

@@ -9,10 +9,11 @@ ghost use Rattle.stored.specs.Signature.{signature, sameSignature};
 ghost use Rattle.stored.specs.Reading.{Reads, modelOf};
 ghost use Rattle.rounds.specs.Round.{Sides};
 ghost use Rattle.rounds.specs.Round as rounds;
-ghost use Rattle.rounds.specs.Board.{boardRoom, countStart, overAt, Empty, Board, Prepared};
+ghost use Rattle.rounds.specs.Board.{boardRoom, overAt, Board, Prepared};
 use crate::board::lay;
 use crate::board::list_cells;
 use crate::group::group_sides;
+use crate::numbers::clear_heads;
 use crate::numbers::number_cells;
 use stored::layout::Layout;
 
@@ -20,7 +21,7 @@ const COLOURS: usize = 20608;
 
 const OTHER_COLOURS: usize = 20672;
 
-// Lays both models out on a board with an empty table of counts; answers how many cells there are.
+// Lays both models out on a board, whose table of counts is emptied; answers how many cells there are.
 pub fn set_up(
     left: &[u8],
     in_left: Layout,
@@ -28,9 +29,10 @@ pub fn set_up(
     in_right: Layout,
     board: &mut [u16],
 ) -> usize
-    requires { ⌜ Reads (now left) «in_left» × Reads (now right) «in_right» × (sameSignature (signature (modelOf (now left))) (signature (modelOf (now right))) ≡ true) × (length (now board) ≡ boardRoom) × Empty countStart (now board) ⌝ }
+    requires { ⌜ Reads (now left) «in_left» × Reads (now right) «in_right» × (sameSignature (signature (modelOf (now left))) (signature (modelOf (now right))) ≡ true) × (length (now board) ≡ boardRoom) ⌝ }
     ensures { λ r. ⌜ Board (modelOf (now (left .entry))) (modelOf (now (right .entry))) r (now (board .exit)) ⌝ }
 {
+    clear_heads(board, 4096);
     let cells = lay(left, in_left, right, in_right, board);
     list_cells(board, cells);
     cells
