@@ -31,7 +31,6 @@ use crate::closing::closes;
 use crate::closing::map_of;
 use crate::work::ROOM;
 use crate::work::clear;
-use crate::work::clear_counts;
 use rounds::classes::Open;
 use rounds::classes::lowest_of;
 use rounds::classes::smallest_open;
@@ -312,7 +311,7 @@ fn run(
     }
 }
 
-// The search from fixed partners. The table of counts is cleared, the work used, and all of it cleared.
+// The search from fixed partners. The work may hold anything; it is used, and all of it cleared.
 pub(crate) fn search(
     left: &[u8],
     in_left: Layout,
@@ -329,7 +328,6 @@ pub(crate) fn search(
     ensures output { λ _. ⌜ now (out .exit) ≡ written (ended (machine.run budget roundCost (modelOf (now (left .entry))) (modelOf (now (right .entry))) budget 0 (startFrom (modelOf (now (left .entry))) (modelOf (now (right .entry))) (now («to_right» .entry)) (now («to_left» .entry))))) (now (out .entry)) ⌝ }
     ensures work { λ _. ⌜ now (work .exit) ≡ cleared workRoom (now (work .entry)) ⌝ }
 {
-    clear_counts(work);
     let cells = set_up(left, in_left, right, in_right, &mut work[..BOARD]);
     let start = first_colours(left, in_left, right, in_right, to_right, to_left);
     let answer = run(

@@ -2,17 +2,10 @@
 ghost use mathlib.Core.Path.{_≡_};
 ghost use Prim.Native.Nat.{_≤_};
 ghost use lib.ListN.{length};
-ghost use Rattle.rounds.specs.Board.{Cleared};
 ghost use Rattle.search.specs.Answer.{workRoom, cleared};
 
 // How many entries a call may use.
 pub(crate) const ROOM: usize = 32768;
-
-// Where the table of counts starts.
-const COUNTS: usize = 12288;
-
-// How many entries it has.
-const COUNTED: usize = 4096;
 
 // Sets the entries that a call may use to zero.
 pub(crate) fn clear(work: &mut [u16])
@@ -23,17 +16,5 @@ pub(crate) fn clear(work: &mut [u16])
     while i < ROOM {
         work[i] = 0;
         i += 1;
-    }
-}
-
-// Sets the entries of the table of counts to zero.
-pub(crate) fn clear_counts(work: &mut [u16])
-    requires { ⌜ workRoom ≤ length (now work) ⌝ }
-    ensures { λ _. ⌜ Cleared 4096 (now (work .entry)) (now (work .exit)) ⌝ }
-{
-    let mut n: usize = 0;
-    while n < COUNTED {
-        work[COUNTS + n] = 0;
-        n += 1;
     }
 }

@@ -1,12 +1,12 @@
 -- The laws of what the search starts from and ends with: rows of 64 whose fronts are written, the first colours, the map of the closing check, the board
--- in work with no counts, and the work cleared at the end. Assumes nothing.
+-- in the work, and the work cleared at the end. Assumes nothing.
 use Prim.Native.Nat.{ℕ, _+_, _-_, _≤_}
 use mathlib.Core.Path.{_≡_, refl, sym, _∙_, ap, ap₂, subst}
 use mathlib.Core.Bool.{Bool, true, false}
 use mathlib.Core.List.{List, [], _∷_, _++_}
 use native.Mathlib.Omega.{arith}
-use lib.ListN.{length, getD, take, drop, replicate, length-map, length-drop}
-use lib.Seq.{length-take-le, length-front, getD-take, getD-drop, drop-append-add, drop-drop, ext-getD}
+use lib.ListN.{length, getD, take, drop, replicate, length-map}
+use lib.Seq.{length-take-le, length-front, drop-append-add, drop-drop}
 use Rattle.lists.specs.Numbers.{upFrom}
 use Rattle.lists.specs.Part.{over}
 use Rattle.lists.proofs.Laws.Numbers.{length-upFrom}
@@ -21,7 +21,7 @@ use Rattle.rows.proofs.Laws.Given.{size-few}
 use Rattle.rows.proofs.Laws.Check.{length-blank}
 use Rattle.rounds.specs.Colours.{leftColours, rightColours}
 use Rattle.rounds.specs.Round.{Sides}
-use Rattle.rounds.specs.Board.{countStart, boardRoom, Empty, Cleared, Board}
+use Rattle.rounds.specs.Board.{boardRoom, Board}
 use Rattle.rounds.proofs.Laws.Colours.{length-left, length-right}
 use Rattle.search.specs.Partners.{PartnersOf}
 use Rattle.search.specs.Machine.{State, refine, imageOf, mapOf, closes, run}
@@ -167,42 +167,32 @@ behind b w n k e h =
     let j : n + (k - n) ≡ k = omega arith in
     ap (λ (x : ℕ). drop x (b ++ drop n w)) i ∙ drop-append-add b (drop n w) (k - n) ∙ drop-drop (k - n) n w ∙ ap (λ (x : ℕ). drop x w) j
 
--- the work of a search: with no counts, and the board in its front
-module _ (w₀ w₁ : List ℕ) (room : workRoom ≤ length w₀) (k : Cleared 4096 w₀ w₁) where
-  pub board-fits : boardRoom ≤ length w₁
-  board-fits = omega (arith, room, k .length-kept)
+-- the work of a search, with the board in its front
+module _ (w : List ℕ) (room : workRoom ≤ length w) where
+  pub board-fits : boardRoom ≤ length w
+  board-fits = omega (arith, room)
 
-  pub board-long : length (take boardRoom w₁) ≡ boardRoom
-  board-long = length-take-le boardRoom w₁ board-fits
+  pub board-long : length (take boardRoom w) ≡ boardRoom
+  board-long = length-take-le boardRoom w board-fits
 
-  pub counts-empty : Empty countStart (take boardRoom w₁)
-  counts-empty n h = getD-take boardRoom w₁ (countStart + n) 0 (omega (arith, h)) ∙ k .cleared n h
+  -- set up
+  module _ (board : List ℕ) (long : length board ≡ length (take boardRoom w)) where
+    pub board-there : (a b : Model) (cells : ℕ) → Board a b cells board → Board a b cells (take boardRoom (board ++ drop boardRoom w))
+    board-there a b cells x = subst (Board a b cells) (sym (back-front boardRoom w board board-fits long)) x
 
-  rest-kept : drop workRoom w₁ ≡ drop workRoom w₀
-  rest-kept =
-      ext-getD 0 (drop workRoom w₁) (drop workRoom w₀) (length-drop workRoom w₁ ∙ omega (arith, k .length-kept, length-drop workRoom w₀))
-      (λ i l. getD-drop workRoom w₁ i 0 ∙ k .above (workRoom + i) (omega arith) ∙ sym (getD-drop workRoom w₀ i 0))
+    still-as-before : length (board ++ drop boardRoom w) ≡ length w
+    still-as-before = length-front w board boardRoom long
 
-  -- with the board set up
-  module _ (board : List ℕ) (long : length board ≡ length (take boardRoom w₁)) where
-    pub board-there : (a b : Model) (cells : ℕ) → Board a b cells board → Board a b cells (take boardRoom (board ++ drop boardRoom w₁))
-    board-there a b cells x = subst (Board a b cells) (sym (back-front boardRoom w₁ board board-fits long)) x
-
-    still-as-before : length (board ++ drop boardRoom w₁) ≡ length w₀
-    still-as-before = length-front w₁ board boardRoom long ∙ k .length-kept
-
-    pub work-room : workRoom ≤ length (board ++ drop boardRoom w₁)
-    work-room = omega (arith, still-as-before)
+    pub work-room : workRoom ≤ length (board ++ drop boardRoom w)
+    work-room = omega (arith, still-as-before, room)
 
     -- after a run
-    module _ (w₂ : List ℕ) (kept : (length w₂ ≡ length (board ++ drop boardRoom w₁)) × (drop workRoom w₂ ≡ drop workRoom (board ++ drop boardRoom w₁))) where
-      pub room-left : workRoom ≤ length w₂
-      room-left = omega (arith, kept .0, still-as-before)
+    module _ (v : List ℕ) (kept : (length v ≡ length (board ++ drop boardRoom w)) × (drop workRoom v ≡ drop workRoom (board ++ drop boardRoom w))) where
+      pub room-left : workRoom ≤ length v
+      room-left = omega (arith, kept .0, still-as-before, room)
 
-      pub cleared-again : (w₃ : List ℕ) → w₃ ≡ cleared workRoom w₂ → w₃ ≡ cleared workRoom w₀
-      cleared-again w₃ u =
-          u
-          ∙ cleared-same w₀ w₂ workRoom (kept .1 ∙ behind board w₁ boardRoom workRoom (long ∙ board-long) (omega arith) ∙ rest-kept)
+      pub cleared-again : (u : List ℕ) → u ≡ cleared workRoom v → u ≡ cleared workRoom w
+      cleared-again u e = e ∙ cleared-same w v workRoom (kept .1 ∙ behind board w boardRoom workRoom (long ∙ board-long) (omega arith))
 
 -- the first colours are small
 pub first-small :
