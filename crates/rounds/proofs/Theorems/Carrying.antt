@@ -48,6 +48,12 @@ module _ (m : Model) (w : WellFormed m) where
           let f = all-mem (all (isRep m)) (r .rows) (sym (relation-canonical m r) ∙ e) row i in
           known-reps x (all-mem (isRep m) row f x j)
 
+  -- a function that is one to one on representatives is so on rows that hold no alias, so the images of the rows are without repetition
+  pub images-distinct : canonical m ≡ true → (f : ℕ → ℕ) → ((x y : ℕ) → List·Memᴰ x (reps m) → List·Memᴰ y (reps m) → f x ≡ f y → x ≡ y) → (k : ℕ) → Distinct (map (map f) (relationAt m k .rows))
+  images-distinct h f one k =
+      let rep = canonical-within h k in
+      map-distinct (map f) (relationAt m k .rows) (λ r q i j. map-one f r q (λ x y u v. one x y (rep r i x u) (rep q j y v))) (rows-distinct k)
+
 -- what `Carries` says, the rows of each relation compared as sets
 pub record CarriesSets (a b : Model) (f : ℕ → ℕ) : Type 0 where
   pub to-rep : (x : ℕ) → List·Memᴰ x (reps a) → List·Memᴰ (f x) (reps b)
@@ -57,12 +63,6 @@ pub record CarriesSets (a b : Model) (f : ℕ → ℕ) : Type 0 where
   pub rows-onto : (k : ℕ) (row : List ℕ) → List·Memᴰ row (relationAt b k .rows) → List·Memᴰ row (map (map f) (relationAt a k .rows))
 
 module _ (a b : Model) (f : ℕ → ℕ) (left : WellFormed a) (right : WellFormed b) (plain : canonical a ≡ true) (sets : CarriesSets a b f) where
-  -- f is one to one on rows, so the images of the rows are without repetition
-  images-distinct : (k : ℕ) → Distinct (map (map f) (relationAt a k .rows))
-  images-distinct k =
-      let rep = canonical-within a left plain k in
-      map-distinct (map f) (relationAt a k .rows) (λ r q m n. map-one f r q (λ x y i j. sets .one-to-one x y (rep r m x i) (rep q n y j))) (rows-distinct a left k)
-
   image-there : (k : ℕ) (row : List ℕ) → List·Memᴰ row (map (map f) (relationAt a k .rows)) → List·Memᴰ row (relationAt b k .rows)
   image-there k row m =
       let r = mem-map (map f) (relationAt a k .rows) row m in
@@ -75,5 +75,5 @@ module _ (a b : Model) (f : ℕ → ℕ) (left : WellFormed a) (right : WellForm
     onto = sets .onto;
     rows-within = canonical-within a left plain;
     rows-carried = λ k.
-        same-members (map (map f) (relationAt a k .rows)) (relationAt b k .rows) (images-distinct k) (rows-distinct b right k) (image-there k) (sets .rows-onto k);
+        same-members (map (map f) (relationAt a k .rows)) (relationAt b k .rows) (images-distinct a left plain f (sets .one-to-one) k) (rows-distinct b right k) (image-there k) (sets .rows-onto k);
   }

@@ -15,8 +15,7 @@ use Rattle.lists.specs.Numbers.{upFrom}
 use Rattle.lists.proofs.Laws.Tests.{and-right}
 use Rattle.lists.proofs.Laws.Every.{all-mem}
 use Rattle.lists.proofs.Laws.Numbers.{upFrom-mem}
-use Rattle.lists.proofs.Laws.Sets.{Distinct, covers, mem-map, map-distinct}
-use Rattle.lists.proofs.Laws.Counting.{map-one}
+use Rattle.lists.proofs.Laws.Sets.{covers, mem-map}
 use Rattle.stored.specs.Model.{Rel, Model, noRelation, relationAt}
 use Rattle.stored.specs.Canonical.{canonical}
 use Rattle.stored.specs.Signature.{signature, sameSignature}
@@ -24,7 +23,7 @@ use Rattle.stored.proofs.Laws.WellFormed.{WellFormed}
 use Rattle.rows.proofs.Theorems.Among.{entryOf}
 use Rattle.rows.proofs.Theorems.Answers.{same-relations}
 use Rattle.rounds.specs.Round.{reps}
-use Rattle.rounds.proofs.Theorems.Carrying.{rows-distinct, canonical-within}
+use Rattle.rounds.proofs.Theorems.Carrying.{images-distinct}
 use Rattle.search.specs.Find.{sameRowCount, alike}
 use Rattle.search.specs.Closing.{OneToOne}
 use Rattle.search.proofs.Theorems.Closing.{imagesAt, Into, Onto}
@@ -58,16 +57,10 @@ module _ (a b : Model) (given : AlikeModels a b) where
           (List·getD-eq-default (a .relations) noRelation (omega arith) ∙ sym (List·getD-eq-default (b .relations) noRelation (omega (arith, same-relations a b (given .one-signature)))))
 
   module _ (f : List ℕ) (one : OneToOne a f) (k : ℕ) where
-    -- the map is one to one on rows, so the images of the rows are without repetition
-    images-distinct : Distinct (imagesAt a b f k)
-    images-distinct =
-        let rep = canonical-within a (given .left-formed) (given .left-plain) k in
-        map-distinct (map (entryOf f)) (relationAt a k .rows) (λ r q m n. map-one (entryOf f) r q (λ x y i j. one x y (rep r m x i) (rep q n y j))) (rows-distinct a (given .left-formed) k)
-
     image-there : Into a b f k → (row : List ℕ) → List·Memᴰ row (imagesAt a b f k) → List·Memᴰ row (relationAt b k .rows)
     image-there into row m =
         let r = mem-map (map (entryOf f)) (relationAt a k .rows) row m in subst (λ (v : List ℕ). List·Memᴰ v (relationAt b k .rows)) (sym (r .2)) (into (r .0) (r .1))
 
     pub into-onto : Into a b f k → Onto a b f k
     into-onto into =
-        covers (imagesAt a b f k) (relationAt b k .rows) images-distinct (image-there into) (omega (arith, length-map (relationAt a k .rows) (map (entryOf f)), as-many-rows k))
+        covers (imagesAt a b f k) (relationAt b k .rows) (images-distinct a (given .left-formed) (given .left-plain) (entryOf f) one k) (image-there into) (omega (arith, length-map (relationAt a k .rows) (map (entryOf f)), as-many-rows k))
