@@ -12,12 +12,12 @@ use Rattle.lists.specs.Numbers.{upFrom}
 use Rattle.lists.specs.Part.{part, over}
 use Rattle.stored.specs.Model.{Model, size, isRep}
 use Rattle.rounds.specs.Colours.{colourAt}
-use Rattle.rounds.specs.Round.{Sides, coloursOf}
+use Rattle.rounds.specs.Round.{Sides, coloursOf, colourCount, round, roundOutcome}
 use Rattle.rounds.specs.Parts.{areSmall}
 use Rattle.search.specs.declared.machine.Phase.{Phase}
 use Rattle.search.specs.declared.machine.Phase.the-variants as phase
 use Rattle.rounds.specs.Classes.{smallestOpen}
-use Rattle.search.specs.Machine.{Choice, State, refine, close, choose, goneOn, tried, nextChoice, afterStable}
+use Rattle.search.specs.Machine.{Choice, State, refine, close, choose, goneOn, tried, nextChoice, afterStable, afterRound}
 
 -- where the choices start in the lent work, and how many entries are left for them
 abbrev pub choicesStart : ℕ
@@ -85,6 +85,13 @@ pub record Settled (a : Model) (left right w₀ : List ℕ) (depth : ℕ) (due :
   pub settled : (b : Model) → size b ≡ length right
       → stateOf due (record { left = left; right = right }) (choicesIn a b w after) ≡ afterStable a b (record { left = left; right = right }) (choicesIn a b w₀ depth) (smallestOpen a left)
   pub within : after ≤ depth + 1
+
+-- what colours come to as those after a round, where the left had so many before it: the phase, the open choices before it and after it, and, where another round is due, how many colours the
+-- left has
+pub record Weighed (a b : Model) (c : Sides) (before : ℕ) (w₀ : List ℕ) (depth : ℕ) (due : Phase) (after count : ℕ) (w : List ℕ) : Type 0 where
+  pub leads : (c₀ : Sides) → c ≡ round a b c₀ → before ≡ colourCount a (c₀ .left) → stateOf due c (choicesIn a b w after) ≡ afterRound a b (choicesIn a b w₀ depth) (roundOutcome a b c₀)
+  pub within : after ≤ depth + 1
+  pub counted : due ≡ phase.Refine → count ≡ colourCount a (c .left)
 
 -- a choice is opened above so many open ones: the work before it and after it
 pub record Opened (w₀ : List ℕ) (depth : ℕ) (left right : List ℕ) (element old new : ℕ) (w : List ℕ) : Type 0 where

@@ -11,6 +11,7 @@ ghost use Rattle.stored.specs.Signature.{signature, sameSignature};
 ghost use Rattle.stored.specs.Reading.{Reads, modelOf};
 ghost use Rattle.rounds.specs.Colours.{leftColours, rightColours};
 ghost use Rattle.rounds.specs.Round.{coloursOf, colourCount, roundOutcome};
+ghost use Rattle.rounds.specs.Round as rounds;
 ghost use Rattle.rounds.specs.Parts.{areSmall, CountsOf};
 ghost use Rattle.rounds.specs.Board.{boardRoom, Board};
 ghost use Rattle.search.specs.declared.machine.Phase.the-variants as phase;
@@ -21,7 +22,7 @@ ghost use Rattle.search.specs.Answer.{answerOf, written, cleared, workRo
 ghost use Rattle.search.specs.Find.{roundCost, startFrom};
 ghost use Rattle.search.specs.Find as calls;
 ghost use Rattle.search.specs.Closing.{OneToOne};
-ghost use Rattle.search.specs.Choices.{choiceLength, choicesOn, choicesIn, sidesIn, stateOf, Rows, SmallSides, writtenIf, Settled};
+ghost use Rattle.search.specs.Choices.{choiceLength, choicesOn, choicesIn, sidesIn, stateOf, Rows, SmallSides, writtenIf, Settled, Weighed};
 use crate::answer::Answer;
 use crate::choices::open_choice;
 use crate::choices::reopen;
@@ -95,6 +96,75 @@ fn settle(
     }
 }
 
+// What the colours after a round come to, given how many the left had before it.
+fn weigh(
+    left: &[u8],
+    in_left: Layout,
+    right: &[u8],
+    in_right: Layout,
+    row: &[u16],
+    other: &[u16],
+    before: usize,
+    choices: &mut [u16],
+    depth: usize,
+) -> Turn
+    requires { ⌜ Reads (now left) «in_left» × Reads (now right) «in_right» × (length (now row) ≡ size (modelOf (now left))) × (length (now other) ≡ size (modelOf (now right))) × (areSmall (coloursOf (modelOf (now left)) (now row)) ≡ true) × (areSmall (coloursOf (modelOf (now right)) (now other)) ≡ true) × (depth * choiceLength + choiceLength ≤ length (now choices)) ⌝ }
+    ensures { λ r. ⌜ Weighed (modelOf (now (left .entry))) (modelOf (now (right .entry))) (record { left = now (row .entry); right = now (other .entry) }) before (now (choices .entry)) depth (r .phase) (r .depth) (r .count) (now (choices .exit)) ⌝ }
+{
+    let both = count_both(left, in_left, right, in_right, row, other);
+    if !both.equal {
+        return Turn {
+            phase: Phase::Choose,
+            depth,
+            count: 0,
+        };
+    }
+    if both.count != before {
+        return Turn {
+            phase: Phase::Refine,
+            depth,
+            count: both.count,
+        };
+    }
+    let table = both.table;
+    settle(
+        left,
+        in_left,
+        row,
+        other,
+        both.count,
+        &table,
+        choices,
+        depth,
+    )
+}
+
+// One round on the board, which is the front of the lent work.
+fn recolour(
+    left: &[u8],
+    in_left: Layout,
+    right: &[u8],
+    in_right: Layout,
+    cells: usize,
+    old: Rows,
+    work: &mut [u16],
+) -> Rows
+    requires { ⌜ Reads (now left) «in_left» × Reads (now right) «in_right» × (sameSignature (signature (modelOf (now left))) (signature (modelOf (now right))) ≡ true) × Board (modelOf (now left)) (modelOf (now right)) cells (take boardRoom (now work)) × (workRoom ≤ length (now work)) × Rows old ⌝ }
+    ensures recoloured { λ r. ⌜ sidesIn (modelOf (now (left .entry))) (modelOf (now (right .entry))) r ≡ rounds.round (modelOf (now (left .entry))) (modelOf (now (right .entry))) (sidesIn (modelOf (now (left .entry))) (modelOf (now (right .entry))) old) ⌝ }
+    ensures shape { λ r. ⌜ Rows r ⌝ }
+    ensures work { λ _. ⌜ Board (modelOf (now (left .entry))) (modelOf (now (right .entry))) cells (take boardRoom (now (work .exit))) × (choicesOn (now (work .exit)) ≡ choicesOn (now (work .entry))) × (length (now (work .exit)) ≡ length (now (work .entry))) × (drop workRoom (now (work .exit)) ≡ drop workRoom (now (work .entry))) ⌝ }
+{
+    round(
+        left,
+        in_left,
+        right,
+        in_right,
+        cells,
+        old,
+        &mut work[..BOARD],
+    )
+}
+
 // One round, and what it comes to, given how many colours the left has before it.
 fn refine(
     left: &[u8],
@@ -115,41 +185,18 @@ fn refine(
     let n = in_left.size;
     let m = in_right.size;
     let old = *colours;
-    let new = round(
+    let new = recolour(left, in_left, right, in_right, cells, old, work);
+    *colours = new;
+    let row = new[0];
+    let other = new[1];
+    weigh(
         left,
         in_left,
         right,
         in_right,
-        cells,
-        old,
-        &mut work[..BOARD],
-    );
-    *colours = new;
-    let row = new[0];
-    let other = new[1];
-    let both = count_both(left, in_left, right, in_right, &row[..n], &other[..m]);
-    if !both.equal {
-        return Turn {
-            phase: Phase::Choose,
-            depth,
-            count: 0,
-        };
-    }
-    if both.count != before {
-        return Turn {
-            phase: Phase::Refine,
-            depth,
-            count: both.count,
-        };
-    }
-    let table = both.table;
-    settle(
-        left,
-        in_left,
         &row[..n],
         &other[..m],
-        both.count,
-        &table,
+        before,
         &mut work[BOARD..ROOM],
         depth,
     )

@@ -35,7 +35,7 @@ use Rattle.search.specs.declared.machine.Phase.{Phase}
 use Rattle.search.specs.declared.machine.Phase.the-variants as phase
 use Rattle.search.specs.Machine.{Choice, refine, close, choose, choiceAt, afterStable, afterRound}
 use Rattle.search.specs.Answer.{workRoom}
-use Rattle.search.specs.Choices.{choiceLength, choicesOn, choicesIn, sidesIn, Rows, SmallSides, stateOf, Settled, Opened}
+use Rattle.search.specs.Choices.{choiceLength, choicesOn, choicesIn, sidesIn, Rows, SmallSides, stateOf, Settled, Weighed, Opened}
 use Rattle.search.proofs.Laws.Choices.{opened-at}
 use Rattle.search.proofs.Theorems.Small.{after-round}
 
@@ -146,81 +146,73 @@ module _ (s : List ℕ) (l : Layout) (r : Reads s l) (row : List ℕ) (h : lengt
   pub side-few : length (take (l .size) row) ≤ maxElements
   side-few = omega (arith, side-front, size-few s l r)
 
--- two rows of 64 before a round and after it, with the sizes of both sides and how many colours the left had before it
-pub record Rounded (a b : Model) (n m : ℕ) (c₀ c : List (List ℕ)) (before : ℕ) : Type 0 where
-  pub left-size : n ≡ size a
-  pub right-size : m ≡ size b
-  pub is-round : sidesIn a b c ≡ round a b (sidesIn a b c₀)
-  pub had : before ≡ colourCount a (sidesIn a b c₀ .left)
+-- the colours after a round are weighed, by whether the counts of both sides are equal
+module _ (a b : Model) (left right : List ℕ) (before : ℕ) (equal : Bool) (told : equal ≡ equalCounts a b (record { left = left; right = right })) (w₀ : List ℕ) (depth : ℕ) where
+  abbrev both : Sides
+  both = record { left = left; right = right }
 
-pub rounded-rows :
-    (s t : List ℕ) (l m : Layout) → Reads s l → Reads t m → (c₀ c : List (List ℕ)) (before : ℕ)
-    → _≡_ {A = Sides} (record { left = take (size (modelOf s)) (getD c 0 []); right = take (size (modelOf t)) (getD c 1 []) })
-    (round (modelOf s) (modelOf t) (record { left = take (size (modelOf s)) (getD c₀ 0 []); right = take (size (modelOf t)) (getD c₀ 1 []) }))
-    → before ≡ colourCount (modelOf s) (sidesIn (modelOf s) (modelOf t) c₀ .left)
-    → Rounded (modelOf s) (modelOf t) (l .size) (m .size) c₀ c before
+  equal-is : (c₀ : Sides) → both ≡ round a b c₀ → (x : Bool) → equal ≡ x → equalCounts a b (round a b c₀) ≡ x
+  equal-is c₀ e x q = sym (ap (equalCounts a b) e) ∙ sym told ∙ q
+
+  -- a dead end
+  pub weighed-dead : equal ≡ false → Weighed a b both before w₀ depth phase.Choose depth 0 w₀
+  weighed-dead q = record {
+    leads = λ c₀ e _.
+        state-choose both (choicesIn a b w₀ depth)
+        ∙ sym (round-dead a b (choicesIn a b w₀ depth))
+        ∙ ap (afterRound a b (choicesIn a b w₀ depth)) (sym (dead-end a b c₀ (equal-is c₀ e false q)));
+    within = omega arith;
+    counted = λ e. choose-no-round e;
+  }
+
+  module _ (q : equal ≡ true) (count : ℕ) (has : count ≡ colourCount a left) where
+    has-new : (c₀ : Sides) → both ≡ round a b c₀ → count ≡ colourCount a (round a b c₀ .left)
+    has-new c₀ e = has ∙ ap (λ (x : Sides). colourCount a (x .left)) e
+
+    -- more colours than before: another round
+    pub weighed-again : (count ≡ before → ⊥) → Weighed a b both before w₀ depth phase.Refine depth count w₀
+    weighed-again d = record {
+      leads = λ c₀ e had.
+          state-refine both (choicesIn a b w₀ depth)
+          ∙ ap (λ (x : Sides). refine x (choicesIn a b w₀ depth)) e
+          ∙ sym (round-again a b (choicesIn a b w₀ depth) (round a b c₀))
+          ∙ ap (afterRound a b (choicesIn a b w₀ depth))
+          (sym (outcome-again a b c₀ (round a b c₀) (equal-is c₀ e true q) (ne-eqb _ _ (λ k. d (has-new c₀ e ∙ k ∙ sym had)))));
+      within = omega arith;
+      counted = λ _. has;
+    }
+
+    -- as many as before: the round is stable
+    pub weighed-stable :
+        count ≡ before → length right ≡ size b → {due : Phase} {after : ℕ} {w : List ℕ} → Settled a left right w₀ depth due after w → (k : ℕ) → k ≡ count
+        → Weighed a b both before w₀ depth due after k w
+    weighed-stable same long o k is = record {
+      leads = λ c₀ e had.
+          o .settled b (sym long)
+          ∙ ap (λ (x : Sides). afterStable a b x (choicesIn a b w₀ depth) (smallestOpen a (x .left))) e
+          ∙ sym (round-stable a b (choicesIn a b w₀ depth) (round a b c₀))
+          ∙ ap (afterRound a b (choicesIn a b w₀ depth)) (sym (outcome-stable a b c₀ (round a b c₀) (equal-is c₀ e true q) (eq-eqb _ _ (sym (has-new c₀ e) ∙ same ∙ had))));
+      within = o .within;
+      counted = λ _. is ∙ has;
+    }
+
+-- the colours of two rows, by the sizes in the layouts
+pub weighed-sides :
+    (s t : List ℕ) (l m : Layout) → Reads s l → Reads t m → (c : List (List ℕ)) {before depth after count : ℕ} {due : Phase} {w₀ w : List ℕ}
+    → Weighed (modelOf s) (modelOf t) (record { left = take (l .size) (getD c 0 []); right = take (m .size) (getD c 1 []) }) before w₀ depth due after count w
+    → Weighed (modelOf s) (modelOf t) (sidesIn (modelOf s) (modelOf t) c) before w₀ depth due after count w
 unfolding sidesIn
-rounded-rows s t l m rs rt c₀ c before e h = record {
-  left-size = size-is s l rs;
-  right-size = size-is t m rt;
-  is-round = e;
-  had = h;
-}
+weighed-sides s t l m p q c {before} {depth} {after} {count} {due} {w₀} {w} u =
+    subst (λ (x : Sides). Weighed (modelOf s) (modelOf t) x before w₀ depth due after count w)
+    (ap₂ (λ (i j : ℕ). record { left = take i (getD c 0 []); right = take j (getD c 1 []) }) (size-is s l p) (size-is t m q)) u
 
-module _ {a b : Model} {n m : ℕ} {c₀ c : List (List ℕ)} {before : ℕ} (u : Rounded a b n m c₀ c before) where
-  abbrev fronts : Sides
-  fronts = record { left = take n (getD c 0 []); right = take m (getD c 1 []) }
-
-  fronts-are : fronts ≡ sidesIn a b c
-  unfolding sidesIn
-  fronts-are = ap₂ (λ (i j : ℕ). record { left = take i (getD c 0 []); right = take j (getD c 1 []) }) (u .left-size) (u .right-size)
-
-  abbrev new : Sides
-  new = round a b (sidesIn a b c₀)
-
-  fronts-new : fronts ≡ new
-  fronts-new = fronts-are ∙ u .is-round
-
-  module _ (r : Bool) (told : r ≡ equalCounts a b fronts) where
-    equal-is : (x : Bool) → r ≡ x → equalCounts a b new ≡ x
-    equal-is x q = sym (ap (equalCounts a b) fronts-new) ∙ sym told ∙ q
-
-    -- a dead end
-    pub state-dead : (due : Sides) (v v₀ : List ℕ) (depth : ℕ) → v ≡ v₀ → r ≡ false → stateOf phase.Choose due (choicesIn a b v depth) ≡ afterRound a b (choicesIn a b v₀ depth) (roundOutcome a b (sidesIn a b c₀))
-    state-dead due v v₀ depth e q =
-        state-choose due (choicesIn a b v depth)
-        ∙ ap (λ (x : List ℕ). choose (choicesIn a b x depth)) e
-        ∙ sym (round-dead a b (choicesIn a b v₀ depth))
-        ∙ ap (afterRound a b (choicesIn a b v₀ depth)) (sym (dead-end a b (sidesIn a b c₀) (equal-is false q)))
-
-    -- how many colours the left has
-    module _ (q : r ≡ true) (after : ℕ) (has : after ≡ colourCount a (take n (getD c 0 []))) where
-      pub count-now : after ≡ colourCount a (sidesIn a b c .left)
-      count-now = has ∙ ap (λ (x : Sides). colourCount a (x .left)) fronts-are
-
-      has-new : after ≡ colourCount a (new .left)
-      has-new = has ∙ ap (λ (x : Sides). colourCount a (x .left)) fronts-new
-
-      -- more than before: another round
-      pub state-again : (v v₀ : List ℕ) (depth : ℕ) → v ≡ v₀ → (after ≡ before → ⊥) → stateOf phase.Refine (sidesIn a b c) (choicesIn a b v depth) ≡ afterRound a b (choicesIn a b v₀ depth) (roundOutcome a b (sidesIn a b c₀))
-      state-again v v₀ depth e d =
-          state-refine (sidesIn a b c) (choicesIn a b v depth)
-          ∙ ap₂ (λ (x : Sides) (y : List ℕ). refine x (choicesIn a b y depth)) (u .is-round) e
-          ∙ sym (round-again a b (choicesIn a b v₀ depth) new)
-          ∙ ap (afterRound a b (choicesIn a b v₀ depth))
-          (sym (outcome-again a b (sidesIn a b c₀) new (equal-is true q) (ne-eqb _ _ (λ k. d (has-new ∙ k ∙ sym (u .had))))))
-
-      -- as many as before: the round is stable
-      pub state-stable :
-          (v₁ v₀ v v′ : List ℕ) (depth : ℕ) (due : Phase) (left : ℕ) → v₁ ≡ v₀ → v′ ≡ v → after ≡ before → length (take m (getD c 1 [])) ≡ size b
-          → Settled a (take n (getD c 0 [])) (take m (getD c 1 [])) v₁ depth due left v
-          → stateOf due (sidesIn a b c) (choicesIn a b v′ left) ≡ afterRound a b (choicesIn a b v₀ depth) (roundOutcome a b (sidesIn a b c₀))
-      state-stable v₁ v₀ v v′ depth due left e e′ same long o =
-          ap₂ (λ (x : Sides) (y : List ℕ). stateOf due x (choicesIn a b y left)) (sym fronts-are) e′
-          ∙ o .settled b (sym long)
-          ∙ ap₂ (λ (x : Sides) (y : List ℕ). afterStable a b x (choicesIn a b y depth) (smallestOpen a (x .left))) fronts-new e
-          ∙ sym (round-stable a b (choicesIn a b v₀ depth) new)
-          ∙ ap (afterRound a b (choicesIn a b v₀ depth)) (sym (outcome-stable a b (sidesIn a b c₀) new (equal-is true q) (eq-eqb _ _ (sym has-new ∙ same ∙ u .had))))
+-- a round on two rows is a round on their colours
+pub rounded-sides :
+    (a b : Model) (c₀ c : List (List ℕ))
+    → _≡_ {A = Sides} (record { left = take (size a) (getD c 0 []); right = take (size b) (getD c 1 []) }) (round a b (record { left = take (size a) (getD c₀ 0 []); right = take (size b) (getD c₀ 1 []) }))
+    → sidesIn a b c ≡ round a b (sidesIn a b c₀)
+unfolding sidesIn
+rounded-sides a b c₀ c e = e
 
 -- the front of a row, by the size in the layout
 module _ (s : List ℕ) (l : Layout) (reads : Reads s l) (row : List ℕ) where
@@ -242,10 +234,11 @@ module _ (s t : List ℕ) (l m : Layout) (p : Reads s l) (q : Reads t m) (c : Li
 
 -- as they are after a round
 pub rounded-small :
-    (s t : List ℕ) (l m : Layout) (p : Reads s l) (q : Reads t m) {n k : ℕ} {c₀ c : List (List ℕ)} {before : ℕ} → Rounded (modelOf s) (modelOf t) n k c₀ c before
+    (s t : List ℕ) (l m : Layout) → Reads s l → Reads t m → (c₀ c : List (List ℕ))
+    → sidesIn (modelOf s) (modelOf t) c ≡ round (modelOf s) (modelOf t) (sidesIn (modelOf s) (modelOf t) c₀)
     → SmallSides (modelOf s) (modelOf t) (sidesIn (modelOf s) (modelOf t) c)
-rounded-small s t l m p q u =
-    subst (SmallSides (modelOf s) (modelOf t)) (sym (u .is-round)) (after-round (modelOf s) (modelOf t) (reads-formed s l p) (reads-formed t m q) _)
+rounded-small s t l m p q c₀ c e =
+    subst (SmallSides (modelOf s) (modelOf t)) (sym e) (after-round (modelOf s) (modelOf t) (reads-formed s l p) (reads-formed t m q) (sidesIn (modelOf s) (modelOf t) c₀))
 
 -- the lent work with its first part come back: the board is what came back, the choices and all past them are as they were
 pub record BoardBack (w new w′ : List ℕ) : Type 0 where
@@ -273,12 +266,15 @@ board-back w new room long = record {
     same : length (new ++ drop boardRoom w) ≡ length w
     same = length-front w new boardRoom long
 
-module _ {w new w′ : List ℕ} (f : BoardBack w new w′) where
-  pub board-kept : (a b : Model) (cells : ℕ) → Board a b cells new → Board a b cells (take boardRoom w′)
-  board-kept a b cells h = rw (f .front) h
+-- what a round leaves of the lent work: the board stands, the open choices and all past them are as they were
+abbrev pub OnBoard : Model → Model → ℕ → List ℕ → List ℕ → Type 0
+OnBoard a b cells w w′ = Board a b cells (take boardRoom w′) × (choicesOn w′ ≡ choicesOn w) × (length w′ ≡ length w) × (drop workRoom w′ ≡ drop workRoom w)
 
-  pub choices-room : (depth : ℕ) → depth < maxElements → depth * choiceLength + choiceLength ≤ length (choicesOn w′)
-  choices-room depth h = omega (arith, length-part w′ boardRoom 12032 (f .room))
+pub board-kept : {w new w′ : List ℕ} → BoardBack w new w′ → (a b : Model) (cells : ℕ) → Board a b cells new → OnBoard a b cells w w′
+board-kept f a b cells h = (rw (f .front) h, f .choices, f .long, f .rest)
+
+pub choices-room : (w : List ℕ) (depth : ℕ) → workRoom ≤ length w → depth < maxElements → depth * choiceLength + choiceLength ≤ length (choicesOn w)
+choices-room w depth room h = omega (arith, length-part w boardRoom 12032 room)
 
 -- the lent work with its second part come back: the choices are what came back, the board and all past the choices are as they were
 pub record ChoicesBack (w new w′ : List ℕ) : Type 0 where
@@ -317,9 +313,15 @@ choices-back w new room long = record {
 abbrev pub Left : Model → Model → ℕ → List (List ℕ) → ℕ → ℕ → List ℕ → List ℕ → Type 0
 Left a b cells c depth left w w′ = Board a b cells (take boardRoom w′) × Rows c × (left ≤ depth + 1) × (length w′ ≡ length w) × (drop workRoom w′ ≡ drop workRoom w)
 
-module _ {w new w′ : List ℕ} (f : BoardBack w new w′) (a b : Model) (cells : ℕ) (h : Board a b cells new) (c : List (List ℕ)) (rows : Rows c) (depth : ℕ) where
-  pub left-as-deep : Left a b cells c depth depth w w′
-  left-as-deep = (board-kept f a b cells h, rows, omega arith, f .long, f .rest)
+-- a round, and what its colours come to
+module _ {a b : Model} {cells : ℕ} (c₀ c : List (List ℕ)) (w₀ : List ℕ) {w₁ : List ℕ} (is-round : sidesIn a b c ≡ round a b (sidesIn a b c₀)) (on : OnBoard a b cells w₀ w₁) {w₂ w₃ : List ℕ} (back : ChoicesBack w₁ w₂ w₃)
+    {before depth after count : ℕ} {due : Phase} (u : Weighed a b (sidesIn a b c) before (choicesOn w₁) depth due after count w₂) where
+  pub refined-state : before ≡ colourCount a (sidesIn a b c₀ .left)
+      → stateOf due (sidesIn a b c) (choicesIn a b (choicesOn w₃) after) ≡ afterRound a b (choicesIn a b (choicesOn w₀) depth) (roundOutcome a b (sidesIn a b c₀))
+  refined-state had =
+      ap (λ (y : List ℕ). stateOf due (sidesIn a b c) (choicesIn a b y after)) (back .choices)
+      ∙ u .leads (sidesIn a b c₀) is-round had
+      ∙ ap (λ (y : List ℕ). afterRound a b (choicesIn a b y depth) (roundOutcome a b (sidesIn a b c₀))) (on .1)
 
-  pub left-deeper : {new′ w″ : List ℕ} → ChoicesBack w′ new′ w″ → (left : ℕ) → left ≤ depth + 1 → Left a b cells c depth left w w″
-  left-deeper g left l = (rw (g .front) (board-kept f a b cells h), rows, l, g .long ∙ f .long, g .rest ∙ f .rest)
+  pub refined-kept : Rows c → Left a b cells c depth after w₀ w₃
+  refined-kept rows = (rw (back .front) (on .0), rows, u .within, back .long ∙ on .2, back .rest ∙ on .3)

@@ -1,50 +1,31 @@
--- `search::machine::refine` meets its contract: one round, two tests, and the choice that a stable round opens; of the lent work the board and the
--- choices come back one after the other. Assumes nothing.
+-- `search::machine::refine` meets its contract: one round, and what its colours come to; of the lent work the board and the choices come back one after the other. In what follows r is the place
+-- after the round, t after the weighing. Assumes nothing.
+use Prim.Native.Nat.{_≤_}
 use mathlib.Core.Path.{_∙_}
 use mathlib.Core.List.{[], _++_}
+use native.Mathlib.Omega.{arith}
 use borrow.Author.Needs.{needs}
-use borrow.Author.Tests.{not-true, not-false}
-use lib.ListN.{getD, take, drop}
-use Rattle.stored.specs.Reading.{modelOf}
+use lib.ListN.{length, getD, take, drop}
 use Rattle.rounds.specs.Board.{boardRoom}
-use Rattle.search.specs.Choices.{sidesIn, SmallSides}
-use Rattle.search.proofs.Laws.Refine.{choose-no-round, side-room, side-front, side-long, side-few, Rounded, rounded-rows, left-small, right-small, rounded-small, count-now, state-dead, state-again, state-stable, BoardBack, board-back, choices-room, ChoicesBack, choices-back, left-as-deep, left-deeper}
+use Rattle.search.specs.Answer.{workRoom}
+use Rattle.search.proofs.Laws.Refine.{side-room, side-front, side-long, left-small, right-small, rounded-small, choices-room, ChoicesBack, choices-back, weighed-sides, refined-state, refined-kept}
 use Rattle.search.proofs.machine.refine.Statement.{statement}
 use Rattle.search.proofs.machine.refine.Tie as tie
 
--- what is known after the round: of the colours, and of the work
-rounded :
-    (r : tie.After-round) → let s = r .before .before .before .before .before .before in
-    Rounded (modelOf (s .args .left .now)) (modelOf (s .args .right .now)) (s .args .in-left .size) (s .args .in-right .size) (s .args .colours .now) (r .round .result) (s .args .before)
-rounded r = let s = r .before .before .before .before .before .before in rounded-rows _ _ _ _ (s .pre .0) (s .pre .1) _ _ _ (r .round .ensures .0) (s .pre .8)
+-- the work after the round has room
+room : (r : tie.After-recolour) → workRoom ≤ length (r .recolour .last .1 .1 .1 .1 .1 .1 .0)
+room r = omega (arith, r .before .before .before .before .before .before .pre .4, r .recolour .kept .1 .1 .1 .1 .1 .1 .0)
 
-small :
-    (r : tie.After-round) → let s = r .before .before .before .before .before .before in
-    SmallSides (modelOf (s .args .left .now)) (modelOf (s .args .right .now)) (sidesIn (modelOf (s .args .left .now)) (modelOf (s .args .right .now)) (r .round .result))
-small r = let s = r .before .before .before .before .before .before in rounded-small _ _ _ _ (s .pre .0) (s .pre .1) (rounded r)
-
-board :
-    (r : tie.After-round) → let w = r .before .before .before .before .before .before .args .work .now in
-    BoardBack w (r .round .last .1 .1 .1 .1 .1 .1 .0) ((r .round .last .1 .1 .1 .1 .1 .1 .0) ++ drop boardRoom w)
-board r = let s = r .before .before .before .before .before .before in board-back (s .args .work .now) (r .round .last .1 .1 .1 .1 .1 .1 .0) (s .pre .4) (r .round .kept .1 .1 .1 .1 .1 .1 .0)
-
--- what is known of the work after a stable round
+-- the work after the weighing
 choices :
-    (t : tie.After-settle) → let r = t .before .before .before .before .before .before .before .before .before .before .before .before .before .before .before .before .before in
-    let w = (r .round .last .1 .1 .1 .1 .1 .1 .0) ++ drop boardRoom (r .before .before .before .before .before .before .args .work .now) in
-    ChoicesBack w (t .settle .last .1 .1 .1 .1 .1 .1 .0) (take boardRoom w ++ ((t .settle .last .1 .1 .1 .1 .1 .1 .0) ++ drop 12032 (drop boardRoom w)))
-choices t = let r = t .before .before .before .before .before .before .before .before .before .before .before .before .before .before .before .before .before in choices-back ((r .round .last .1 .1 .1 .1 .1 .1 .0) ++ drop boardRoom (r .before .before .before .before .before .before .args .work .now)) (t .settle .last .1 .1 .1 .1 .1 .1 .0) (board r .room) (t .settle .kept .1 .1 .1 .1 .1 .1 .0)
+    (t : tie.After-weigh) → let w = t .before .before .before .before .before .before .before .before .recolour .last .1 .1 .1 .1 .1 .1 .0 in
+    ChoicesBack w (t .weigh .last .1 .1 .1 .1 .1 .1 .1 .0) (take boardRoom w ++ ((t .weigh .last .1 .1 .1 .1 .1 .1 .1 .0) ++ drop 12032 (drop boardRoom w)))
+choices t = let r = t .before .before .before .before .before .before .before .before in choices-back (r .recolour .last .1 .1 .1 .1 .1 .1 .0) (t .weigh .last .1 .1 .1 .1 .1 .1 .1 .0) (room r) (t .weigh .kept .1 .1 .1 .1 .1 .1 .1 .0)
 
-slice-relend-prefix-round : tie.Need-slice-relend-prefix-round
-slice-relend-prefix-round c = search needs
-
-slice-aggregate-round : tie.Need-slice-aggregate-round
-slice-aggregate-round c = search needs
-
-round-requires : tie.Need-round-requires
-round-requires c κs =
-    let s = c .before .before .before .before .before in
-    (s .pre .0, s .pre .1, s .pre .2, s .pre .3, s .pre .6 .1, s .pre .6 .2)
+recolour-requires : tie.Need-recolour-requires
+recolour-requires c κs =
+    let p = c .before .before .before .before .before .pre in
+    (p .0, p .1, p .2, p .3, p .4, p .6)
 
 array-copy-out-row : tie.Need-array-copy-out-row
 array-copy-out-row c = search needs
@@ -55,146 +36,70 @@ array-copy-out-other c = search needs
 array-share-prefix-row : tie.Need-array-share-prefix-row
 array-share-prefix-row c =
     let r = c .before .before .before .before in
-    let s = r .before .before .before .before .before .before in
-    side-room _ _ (s .pre .0) (getD (r .round .result) 0 []) (r .round .ensures .1 .0 .1)
+    side-room _ _ (r .before .before .before .before .before .before .pre .0) (getD (r .recolour .result) 0 []) (r .recolour .ensures .1 .0 .1)
 
-slice-aggregate-count-both : tie.Need-slice-aggregate-count-both
-slice-aggregate-count-both c =
+slice-aggregate-weigh : tie.Need-slice-aggregate-weigh
+slice-aggregate-weigh c =
     let r = c .before .before .before .before .before in
-    let s = r .before .before .before .before .before .before in
-    side-front _ _ (s .pre .0) (getD (r .round .result) 0 []) (r .round .ensures .1 .0 .1)
+    side-front _ _ (r .before .before .before .before .before .before .pre .0) (getD (r .recolour .result) 0 []) (r .recolour .ensures .1 .0 .1)
 
 array-share-prefix-other : tie.Need-array-share-prefix-other
 array-share-prefix-other c =
     let r = c .before .before .before .before .before in
-    let s = r .before .before .before .before .before .before in
-    side-room _ _ (s .pre .1) (getD (r .round .result) 1 []) (r .round .ensures .1 .0 .2)
+    side-room _ _ (r .before .before .before .before .before .before .pre .1) (getD (r .recolour .result) 1 []) (r .recolour .ensures .1 .0 .2)
 
-slice-aggregate-count-both-2 : tie.Need-slice-aggregate-count-both-2
-slice-aggregate-count-both-2 c =
+slice-aggregate-weigh-2 : tie.Need-slice-aggregate-weigh-2
+slice-aggregate-weigh-2 c =
     let r = c .before .before .before .before .before .before in
-    let s = r .before .before .before .before .before .before in
-    side-front _ _ (s .pre .1) (getD (r .round .result) 1 []) (r .round .ensures .1 .0 .2)
+    side-front _ _ (r .before .before .before .before .before .before .pre .1) (getD (r .recolour .result) 1 []) (r .recolour .ensures .1 .0 .2)
 
-count-both-requires : tie.Need-count-both-requires
-count-both-requires c κs =
-    let r = c .before .before .before .before .before .before in
+sub-weigh : tie.Need-sub-weigh
+sub-weigh c = search needs
+
+part-weigh-start : tie.Need-part-weigh-start
+part-weigh-start c = search needs
+
+part-weigh-end : tie.Need-part-weigh-end
+part-weigh-end c = room (c .before .before .before .before .before .before)
+
+weigh-requires : tie.Need-weigh-requires
+weigh-requires c κs =
+    let r = c .before .before .before .before .before .before .before in
     let s = r .before .before .before .before .before .before in
-    (s .pre .0, s .pre .1, side-long _ _ (s .pre .0) _ (r .round .ensures .1 .0 .1), side-long _ _ (s .pre .1) _ (r .round .ensures .1 .0 .2), left-small _ _ _ _ (s .pre .0) (s .pre .1) (r .round .result) (small r), right-small _ _ _ _ (s .pre .0) (s .pre .1) (r .round .result) (small r))
+    let p = s .pre in
+    let e = r .recolour .ensures in
+    let small = rounded-small _ _ _ _ (p .0) (p .1) (s .args .colours .now) (r .recolour .result) (e .0) in
+    (p .0, p .1, side-long _ _ (p .0) _ (e .1 .0 .1), side-long _ _ (p .1) _ (e .1 .0 .2), left-small _ _ _ _ (p .0) (p .1) (r .recolour .result) small, right-small _ _ _ _ (p .0) (p .1) (r .recolour .result) small, choices-room (r .recolour .last .1 .1 .1 .1 .1 .1 .0) (s .args .depth) (room r) (p .5))
 
 same-length : tie.Need-same-length
-same-length c = board (c .before .before .before .before .before .before .before .before .before) .long
+same-length c =
+    let t = c .before .before in
+    choices t .long ∙ t .before .before .before .before .before .before .before .before .recolour .kept .1 .1 .1 .1 .1 .1 .0
 
 returns : tie.Need-returns
 returns c =
-    let r = c .before .before .before .before .before .before .before .before .before in (
-      state-dead (rounded r) _ (c .before .before .count-both .ensures .0) _ _ _ _ (board r .choices) (not-true _ (c .if1 .taken)),
-      (left-as-deep (board r) _ _ _ (r .round .ensures .1 .1) (r .round .result) (r .round .ensures .1 .0) _, λ e. choose-no-round e),
-    )
-
-same-length-2 : tie.Need-same-length-2
-same-length-2 c = board (c .before .before .before .before .before .before .before .before .before .before .before) .long
-
-returns-2 : tie.Need-returns-2
-returns-2 c =
-    let e = c .before .before in
-    let k = e .before .before .count-both .ensures in
-    let r = c .before .before .before .before .before .before .before .before .before .before .before in (
-      state-again (rounded r) _ (k .0) (not-false _ (e .if1 .left)) _ (k .1 .0) _ _ _ (board r .choices) (c .if2 .taken),
-      (
-        left-as-deep (board r) _ _ _ (r .round .ensures .1 .1) (r .round .result) (r .round .ensures .1 .0) _,
-        λ _. count-now (rounded r) _ (k .0) (not-false _ (e .if1 .left)) _ (k .1 .0),
-      ),
-    )
-
-array-share-prefix-row-2 : tie.Need-array-share-prefix-row-2
-array-share-prefix-row-2 c =
-    let r = c .before .before .before .before .before .before .before .before .before .before .before .before in
-    let s = r .before .before .before .before .before .before in
-    side-room _ _ (s .pre .0) (getD (r .round .result) 0 []) (r .round .ensures .1 .0 .1)
-
-slice-aggregate-settle : tie.Need-slice-aggregate-settle
-slice-aggregate-settle c =
-    let r = c .before .before .before .before .before .before .before .before .before .before .before .before .before in
-    let s = r .before .before .before .before .before .before in
-    side-front _ _ (s .pre .0) (getD (r .round .result) 0 []) (r .round .ensures .1 .0 .1)
-
-array-share-prefix-other-2 : tie.Need-array-share-prefix-other-2
-array-share-prefix-other-2 c =
-    let r = c .before .before .before .before .before .before .before .before .before .before .before .before .before in
-    let s = r .before .before .before .before .before .before in
-    side-room _ _ (s .pre .1) (getD (r .round .result) 1 []) (r .round .ensures .1 .0 .2)
-
-slice-aggregate-settle-2 : tie.Need-slice-aggregate-settle-2
-slice-aggregate-settle-2 c =
-    let r = c .before .before .before .before .before .before .before .before .before .before .before .before .before .before in
-    let s = r .before .before .before .before .before .before in
-    side-front _ _ (s .pre .1) (getD (r .round .result) 1 []) (r .round .ensures .1 .0 .2)
-
-slice-aggregate-settle-3 : tie.Need-slice-aggregate-settle-3
-slice-aggregate-settle-3 c = search needs
-
-sub-settle : tie.Need-sub-settle
-sub-settle c = search needs
-
-part-settle-start : tie.Need-part-settle-start
-part-settle-start c = search needs
-
-part-settle-end : tie.Need-part-settle-end
-part-settle-end c = board (c .before .before .before .before .before .before .before .before .before .before .before .before .before .before .before) .room
-
-settle-requires : tie.Need-settle-requires
-settle-requires c κs =
-    let r = c .before .before .before .before .before .before .before .before .before .before .before .before .before .before .before .before in
-    let s = r .before .before .before .before .before .before in
-    let e = c .before .before .before .before .before .before .before in
-    let k = e .before .before .count-both .ensures .1 in
-    (s .pre .0, side-long _ _ (s .pre .0) _ (r .round .ensures .1 .0 .1), side-few _ _ (s .pre .1) _ (r .round .ensures .1 .0 .2), k .0, choices-room (board r) _ (s .pre .5), k .1)
-
-same-length-3 : tie.Need-same-length-3
-same-length-3 c = choices (c .before .before) .long ∙ board (c .before .before .before .before .before .before .before .before .before .before .before .before .before .before .before .before .before .before .before) .long
-
-returns-3 : tie.Need-returns-3
-returns-3 c =
     let t = c .before .before in
-    let d = c .before .before .before .before .before .before .before .before in
-    let e = d .before .before in
-    let k = e .before .before .count-both .ensures in
-    let r = c .before .before .before .before .before .before .before .before .before .before .before .before .before .before .before .before .before .before .before in
-    let s = r .before .before .before .before .before .before in (
-      state-stable (rounded r) _ (k .0) (not-false _ (e .if1 .left)) _ (k .1 .0) _ _ _ _ _ _ _ (board r .choices) (choices t .choices) (d .if2 .left) (side-long _ _ (s .pre .1) _ (r .round .ensures .1 .0 .2)) (t .settle .ensures .0),
-      (
-        left-deeper (board r) _ _ _ (r .round .ensures .1 .1) (r .round .result) (r .round .ensures .1 .0) _ (choices t) _ (t .settle .ensures .0 .within),
-        λ _. t .settle .ensures .1 ∙ count-now (rounded r) _ (k .0) (not-false _ (e .if1 .left)) _ (k .1 .0),
-      ),
-    )
+    let r = t .before .before .before .before .before .before .before .before in
+    let s = r .before .before .before .before .before .before in
+    let p = s .pre in
+    let e = r .recolour .ensures in
+    let u = weighed-sides _ _ _ _ (p .0) (p .1) (r .recolour .result) (t .weigh .ensures) in
+    (refined-state (s .args .colours .now) (r .recolour .result) (s .args .work .now) (e .0) (e .1 .1) (choices t) u (p .8), (refined-kept (s .args .colours .now) (r .recolour .result) (s .args .work .now) (e .0) (e .1 .1) (choices t) u (e .1 .0), u .counted))
 
 pub refine-spec : {M : Type 1} → statement M
 refine-spec =
     tie.close
     (tie.spec
-    slice-relend-prefix-round
-    slice-aggregate-round
-    round-requires
+    recolour-requires
     array-copy-out-row
     array-copy-out-other
     array-share-prefix-row
-    slice-aggregate-count-both
+    slice-aggregate-weigh
     array-share-prefix-other
-    slice-aggregate-count-both-2
-    count-both-requires
+    slice-aggregate-weigh-2
+    sub-weigh
+    part-weigh-start
+    part-weigh-end
+    weigh-requires
     same-length
-    returns
-    same-length-2
-    returns-2
-    array-share-prefix-row-2
-    slice-aggregate-settle
-    array-share-prefix-other-2
-    slice-aggregate-settle-2
-    slice-aggregate-settle-3
-    sub-settle
-    part-settle-start
-    part-settle-end
-    settle-requires
-    same-length-3
-    returns-3)
+    returns)
