@@ -2,7 +2,7 @@
 ghost use mathlib.Core.Path.{_≡_};
 ghost use mathlib.Core.Bool.{true, false};
 ghost use mathlib.Core.List.{[]};
-ghost use Prim.Native.Nat.{_≤_, _<_, _+_, _*_};
+ghost use Prim.Native.Nat.{_≤_, _<_, _+_, _-_, _*_};
 ghost use lib.ListN.{length, getD, take, drop};
 ghost use Rattle.stored.specs.Limits.{maxElements};
 ghost use Rattle.stored.specs.Model.{size};
@@ -22,7 +22,7 @@ ghost use Rattle.search.specs.Answer.{answerOf, written, cleared, workRo
 ghost use Rattle.search.specs.Find.{roundCost, startFrom};
 ghost use Rattle.search.specs.Find as calls;
 ghost use Rattle.search.specs.Closing.{OneToOne};
-ghost use Rattle.search.specs.Choices.{choiceLength, choicesOn, choicesIn, sidesIn, stateOf, Rows, SmallSides, writtenIf, Settled, Weighed};
+ghost use Rattle.search.specs.Choices.{choiceLength, choicesOn, candidateIn, choicesIn, sidesIn, stateOf, Rows, SmallSides, writtenIf, Settled, Weighed, Reopened, Looked};
 use crate::answer::Answer;
 use crate::choices::open_choice;
 use crate::choices::reopen;
@@ -275,6 +275,44 @@ fn first_count(left: &[u8], in_left: Layout, start: Rows) -> usize
     colour_count(left, in_left, &row[..n])
 }
 
+// How many of the open choices stay open when the latest ones with no candidate left are closed.
+fn still_open(right: &[u8], in_right: Layout, work: &[u16], depth: usize) -> usize
+    requires { ⌜ Reads (now right) «in_right» × (workRoom ≤ length (now work)) × (depth < maxElements) ⌝ }
+    ensures { λ r. ⌜ Reopened (modelOf (now (right .entry))) (choicesOn (now (work .entry))) depth r ⌝ }
+{
+    reopen(right, in_right, &work[BOARD..ROOM], depth)
+}
+
+// What a candidate looked at comes to: whether it has the choice's colour, and, where it has, how many colours there are when it is tried.
+struct Look {
+    same: bool,
+    count: usize,
+}
+
+// Looks at the next candidate of the latest of so many open choices. Where it has the choice's colour, `colours` are those to go on with; else they are unchanged.
+fn try_latest(
+    right: &[u8],
+    in_right: Layout,
+    n: usize,
+    work: &mut [u16],
+    depth: usize,
+    colours: &mut Rows,
+) -> Look
+    requires { ⌜ Reads (now right) «in_right» × (workRoom ≤ length (now work)) × (1 ≤ depth) × (depth < maxElements) × (candidateIn (modelOf (now right)) (choicesOn (now work)) (depth - 1) < size (modelOf (now right))) × (getD (choicesOn (now work)) ((depth - 1) * choiceLength + 128) 0 < n) × (n ≤ maxElements) ⌝ }
+    ensures looked { λ r. ⌜ Looked (modelOf (now (right .entry))) n (choicesOn (now (work .entry))) depth (now (colours .entry)) (choicesOn (now (work .exit))) (now (colours .exit)) (r .same) ⌝ }
+    ensures count { λ r. ⌜ (r .same ≡ true → r .count ≡ getD (choicesOn (now (work .exit))) ((depth - 1) * choiceLength + 130) 0 + 1) ⌝ }
+    ensures work { λ _. ⌜ (take boardRoom (now (work .exit)) ≡ take boardRoom (now (work .entry))) × (length (now (work .exit)) ≡ length (now (work .entry))) × (drop workRoom (now (work .exit)) ≡ drop workRoom (now (work .entry))) ⌝ }
+{
+    if try_choice(right, in_right, n, &mut work[BOARD..ROOM], depth, colours) {
+        let count = tried_count(&work[BOARD..ROOM], depth);
+        return Look { same: true, count };
+    }
+    Look {
+        same: false,
+        count: 0,
+    }
+}
+
 // The machine's run from some colours with no open choice (`search` of model_hom.rs).
 fn run(
     left: &[u8],
@@ -330,7 +368,7 @@ fn run(
                 phase = Phase::Choose;
             }
             Phase::Choose => {
-                let stay = reopen(right, in_right, &work[BOARD..ROOM], depth);
+                let stay = still_open(right, in_right, work, depth);
                 if stay == 0 {
                     return Answer::None(used);
                 }
@@ -338,17 +376,10 @@ fn run(
                     return Answer::Exhausted(used); // a candidate is due
                 }
                 depth = stay;
-                let n = in_left.size;
-                if try_choice(
-                    right,
-                    in_right,
-                    n,
-                    &mut work[BOARD..ROOM],
-                    depth,
-                    &mut colours,
-                ) {
+                let look = try_latest(right, in_right, in_left.size, work, stay, &mut colours);
+                if look.same {
                     used += 1; // a candidate of the colour
-                    count = tried_count(&work[BOARD..ROOM], depth);
+                    count = look.count;
                     phase = Phase::Refine;
                 } else {
                     used += 1; // a candidate of another colour

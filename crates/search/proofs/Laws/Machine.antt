@@ -15,6 +15,7 @@ use Rattle.lists.specs.Numbers.{upFrom}
 use Rattle.lists.proofs.Laws.Different.{keep-fits}
 use Rattle.lists.proofs.Laws.Numbers.{length-upFrom}
 use Rattle.stored.specs.declared.layout.Layout.{Layout}
+use Rattle.stored.specs.Limits.{maxElements}
 use Rattle.stored.specs.Model.{Model, size, isRep}
 use Rattle.stored.specs.Canonical.{canonical}
 use Rattle.stored.specs.Signature.{signature, sameSignature}
@@ -168,7 +169,7 @@ pub record Running (s t : List ℕ) (l m : Layout) (cells : ℕ) (start : List (
       Goes (modelOf s) (modelOf t) budget (sidesIn (modelOf s) (modelOf t) start) used
       (stateOf due (sidesIn (modelOf s) (modelOf t) colours) (choicesIn (modelOf s) (modelOf t) (choicesOn work) depth))
 
-module _ (s t : List ℕ) (l m : Layout) (cells : ℕ) (start : List (List ℕ)) (budget : ℕ) (out₀ work₀ out work : List ℕ) (colours : List (List ℕ)) (due : Phase) (depth used : ℕ)
+module _ {s t : List ℕ} {l m : Layout} {cells : ℕ} {start : List (List ℕ)} {budget : ℕ} {out₀ work₀ out work : List ℕ} {colours : List (List ℕ)} {due : Phase} {depth used : ℕ}
     (r : Running s t l m cells start budget out₀ work₀ out work colours due depth used) where
   abbrev a : Model
   a = modelOf s
@@ -183,19 +184,13 @@ module _ (s t : List ℕ) (l m : Layout) (cells : ℕ) (start : List (List ℕ))
   few-reps =
       omega (arith, ap length (reps-kept a), keep-fits (isRep a) (upFrom 0 (size a)), length-upFrom 0 (size a), size-few s l (r .reads), size-is s l (r .reads))
 
-  pub depth-few : depth ≤ 63
+  pub depth-few : depth < maxElements
   depth-few =
       omega
       (arith, few-reps, open-choices a b 1 (sidesIn a b start) _ (r .goes .reached), ap length (open-of due (sidesIn a b colours) now-choices), choices-long a b (choicesOn work) depth)
 
   pub work-room : workRoom ≤ length work
   work-room = omega (arith, r .room, r .long)
-
-  pub choices-room : length (choicesOn work) ≡ 12032
-  choices-room = length-part work boardRoom 12032 (omega (arith, work-room))
-
-  pub choices-fit : depth * choiceLength ≤ length (choicesOn work)
-  choices-fit = omega (arith, choices-room, mul-le-mul-right {m = depth} {n = 63} choiceLength depth-few)
 
   -- the three clauses of an answer
   abbrev pub Answers : answered.Answer → List ℕ → List ℕ → Type 0
@@ -226,11 +221,11 @@ module _ (s t : List ℕ) (l m : Layout) (cells : ℕ) (start : List (List ℕ))
     round-out u = answers-exhausted (goes-out a b budget (sidesIn a b start) used _ at-round _ (step-refine a b (sidesIn a b colours) now-choices) u)
 
     pub round-on :
-        (n : used ≡ budget → ⊥) (work' : List ℕ) (colours' : List (List ℕ)) (due' : Phase) (depth' : ℕ)
+        (n : used ≡ budget → ⊥) {work' : List ℕ} {colours' : List (List ℕ)} {due' : Phase} {depth' : ℕ}
         → stateOf due' (sidesIn a b colours') (choicesIn a b (choicesOn work') depth') ≡ afterRound a b now-choices (roundOutcome a b (sidesIn a b colours))
         → Board a b cells (take boardRoom work') × Rows colours' × (depth' ≤ depth + 1) × (length work' ≡ length work) × (drop workRoom work' ≡ drop workRoom work)
         → Running s t l m cells start budget out₀ work₀ out work' colours' due' depth' (used + 1)
-    round-on n work' colours' due' depth' e k = record {
+    round-on n e k = record {
       reads = r .reads;
       others = r .others;
       alikes = r .alikes;
@@ -260,7 +255,7 @@ module _ (s t : List ℕ) (l m : Layout) (cells : ℕ) (start : List (List ℕ))
     unfolding step
     check-out u = answers-exhausted (goes-out a b budget (sidesIn a b start) used _ at-check _ refl u)
 
-    module _ (n : used ≡ budget → ⊥) (passed : Bool) (e : passed ≡ closes a b its-map) (out' : List ℕ) (f : out' ≡ writtenIf passed its-map out) where
+    module _ (n : used ≡ budget → ⊥) {passed : Bool} (e : passed ≡ closes a b its-map) {out' : List ℕ} (f : out' ≡ writtenIf passed its-map out) where
       pub check-found : passed ≡ true → Answers (answer.Found (used + 1)) out' work
       unfolding answerOf written writtenIf
       check-found p =
@@ -285,7 +280,7 @@ module _ (s t : List ℕ) (l m : Layout) (cells : ℕ) (start : List (List ℕ))
       }
 
   -- the next candidate is due
-  module _ (q : due ≡ phase.Choose) (stay : ℕ) (o : Reopened b (choicesOn work) depth stay) where
+  module _ (q : due ≡ phase.Choose) {stay : ℕ} (o : Reopened b (choicesOn work) depth stay) where
     at-choice : Goes a b budget (sidesIn a b start) used (choose now-choices)
     unfolding stateOf
     at-choice = subst (λ (p : Phase). Goes a b budget (sidesIn a b start) used (stateOf p (sidesIn a b colours) now-choices)) q (r .goes)
@@ -329,87 +324,55 @@ module _ (s t : List ℕ) (l m : Layout) (cells : ℕ) (start : List (List ℕ))
           let k = latest-risen .opened in
           omega (arith, k .its-element, reps-below a _ (open-lowest a _ _ (k .was-open) .0), size-is s l (r .reads))
 
-      pub stay-fits : stay * choiceLength ≤ length (choicesOn work)
-      stay-fits = omega (arith, choices-fit, mul-le-mul-right {m = stay} {n = depth} choiceLength (o .within))
+      pub stay-few : stay < maxElements
+      stay-few = omega (arith, depth-few, o .within)
 
       pub candidate-there : candidateIn b (choicesOn work) (stay - 1) < size b
       candidate-there = o .goes least
 
-      -- the part of the work for the choices was lent and came back
-      module _ (part' : List ℕ) (long' : length part' ≡ length (choicesOn work)) where
-        abbrev work' : List ℕ
-        work' = take boardRoom work ++ (part' ++ drop 12032 (drop boardRoom work))
+      -- a candidate of the choice's colour gives one colour more than the choice had
+      pub choice-counted : {w : List ℕ} {colours' : List (List ℕ)} {has : Bool} → Looked b (l .size) (choicesOn work) stay colours w colours' has → has ≡ true → {count : ℕ}
+          → count ≡ getD w ((stay - 1) * choiceLength + 130) 0 + 1 → Carried a b colours' phase.Refine count
+      choice-counted {w} {colours'} k h e =
+          let latest = choiceIn a b (choicesOn work) (stay - 1) in
+          let size-same = sym (size-is s l (r .reads)) in
+          let kept : getD w ((stay - 1) * choiceLength + 130) 0 ≡ latest .new =
+          sym (newest-in a b w stay least) ∙ ap newest (k .gone-on a size-same) ∙ newest-gone latest _ _ in
+          let more : colourCount a (sidesIn a b colours' .left) ≡ suc (latest .new) =
+          ap (λ (c : Sides). colourCount a (c .left)) (k .gives h a size-same) ∙ trial-count a b latest _ (latest-risen .opened) in
+          record { counted = λ _. omega (arith, e, kept, more) }
 
-        front-long : length (take boardRoom work) ≡ boardRoom
-        front-long = length-take-le boardRoom work (omega (arith, work-room))
+      -- the candidate was looked at
+      module _ (n : used ≡ budget → ⊥) {work' : List ℕ} {colours' : List (List ℕ)} {has : Bool} (k : Looked b (l .size) (choicesOn work) stay colours (choicesOn work') colours' has)
+          (same : (take boardRoom work' ≡ take boardRoom work) × (length work' ≡ length work) × (drop workRoom work' ≡ drop workRoom work)) where
+        tried-on : (due' : Phase) → Rows colours' → step 1 a b (choose now-choices) ≡ takes 1 (stateOf due' (sidesIn a b colours') (choicesIn a b (choicesOn work') stay))
+            → Running s t l m cells start budget out₀ work₀ out work' colours' due' stay (used + 1)
+        tried-on due' rows' e = record {
+          reads = r .reads;
+          others = r .others;
+          alikes = r .alikes;
+          fits = r .fits;
+          room = r .room;
+          board = rw (same .0) (r .board);
+          rows = rows';
+          long = same .1 ∙ r .long;
+          above = same .2 ∙ r .above;
+          same-out = r .same-out;
+          goes = goes-on a b budget (sidesIn a b start) used _ at-choice _ e n;
+        }
 
-        same-front : take boardRoom work' ≡ take boardRoom work
-        same-front = take-at (take boardRoom work) (part' ++ drop 12032 (drop boardRoom work)) boardRoom front-long
+        pub choice-same : has ≡ true → Running s t l m cells start budget out₀ work₀ out work' colours' phase.Refine stay (used + 1)
+        unfolding stateOf
+        choice-same h =
+            let j = subst (Looked b (l .size) (choicesOn work) stay colours (choicesOn work') colours') h k in
+            tried-on phase.Refine (j .long refl) (leads _ (next-same a b (choicesOn work) stay least candidate-there (sym (size-is s l (r .reads))) j))
 
-        behind : drop boardRoom work' ≡ part' ++ drop 12032 (drop boardRoom work)
-        behind = drop-at (take boardRoom work) (part' ++ drop 12032 (drop boardRoom work)) boardRoom front-long
-
-        new-choices : choicesOn work' ≡ part'
-        new-choices = ap (take 12032) behind ∙ take-at part' (drop 12032 (drop boardRoom work)) 12032 (long' ∙ choices-room)
-
-        same-above : drop workRoom work' ≡ drop workRoom work
-        same-above =
-            sym (drop-drop 12032 boardRoom work') ∙ ap (drop 12032) behind ∙ drop-at part' (drop 12032 (drop boardRoom work)) 12032 (long' ∙ choices-room) ∙ drop-drop 12032 boardRoom work
-
-        same-long : length work' ≡ length work
-        same-long =
-            length-append (take boardRoom work) (part' ++ drop 12032 (drop boardRoom work))
-            ∙ omega (arith, front-long, length-append part' (drop 12032 (drop boardRoom work)), long', choices-room, length-drop 12032 (drop boardRoom work), length-drop boardRoom work, work-room)
-
-        pub tried-room : workRoom ≤ length work'
-        tried-room = omega (arith, same-long, work-room)
-
-        pub tried-fits : stay * choiceLength ≤ length (choicesOn work')
-        tried-fits = omega (arith, ap length new-choices, long', stay-fits)
-
-        module _ (n : used ≡ budget → ⊥) (colours' : List (List ℕ)) where
-          tried-on : (due' : Phase) → Rows colours' → step 1 a b (choose now-choices) ≡ takes 1 (stateOf due' (sidesIn a b colours') (choicesIn a b part' stay))
-              → Running s t l m cells start budget out₀ work₀ out work' colours' due' stay (used + 1)
-          tried-on due' rows' e = record {
-            reads = r .reads;
-            others = r .others;
-            alikes = r .alikes;
-            fits = r .fits;
-            room = r .room;
-            board = rw same-front (r .board);
-            rows = rows';
-            long = same-long ∙ r .long;
-            above = same-above ∙ r .above;
-            same-out = r .same-out;
-            goes =
-                goes-on a b budget (sidesIn a b start) used _ at-choice _
-                (e ∙ ap (λ (w : List ℕ). takes 1 (stateOf due' (sidesIn a b colours') (choicesIn a b w stay))) (sym new-choices)) n;
-          }
-
-          module _ (has : Bool) (k : Looked b (l .size) (choicesOn work) stay colours part' colours' has) where
-            pub choice-same : has ≡ true → Running s t l m cells start budget out₀ work₀ out work' colours' phase.Refine stay (used + 1)
-            unfolding stateOf
-            choice-same h =
-                let j = subst (Looked b (l .size) (choicesOn work) stay colours part' colours') h k in
-                tried-on phase.Refine (j .long refl) (leads _ (next-same a b (choicesOn work) stay least candidate-there (sym (size-is s l (r .reads))) j))
-
-            -- with one colour more than the choice had
-            pub choice-counted : has ≡ true → (count : ℕ) → count ≡ getD (choicesOn work') ((stay - 1) * choiceLength + 130) 0 + 1 → Carried a b colours' phase.Refine count
-            choice-counted h count e =
-                let latest = choiceIn a b (choicesOn work) (stay - 1) in
-                let size-same = sym (size-is s l (r .reads)) in
-                let kept : getD part' ((stay - 1) * choiceLength + 130) 0 ≡ latest .new =
-                sym (newest-in a b part' stay least) ∙ ap newest (k .gone-on a size-same) ∙ newest-gone latest _ _ in
-                let more : colourCount a (sidesIn a b colours' .left) ≡ suc (latest .new) =
-                ap (λ (c : Sides). colourCount a (c .left)) (k .gives h a size-same) ∙ trial-count a b latest _ (latest-risen .opened) in
-                record { counted = λ _. omega (arith, e, ap (λ (w : List ℕ). getD w ((stay - 1) * choiceLength + 130) 0) new-choices, kept, more) }
-
-            pub choice-other : has ≡ false → Running s t l m cells start budget out₀ work₀ out work' colours' due stay (used + 1)
-            unfolding stateOf
-            choice-other h =
-                let j = subst (Looked b (l .size) (choicesOn work) stay colours part' colours') h k in
-                subst (λ (p : Phase). Running s t l m cells start budget out₀ work₀ out work' colours' p stay (used + 1)) (sym q)
-                (tried-on phase.Choose (rw (j .leaves refl) (r .rows)) (leads _ (next-other a b (choicesOn work) stay least candidate-there (sym (size-is s l (r .reads))) j)))
+        pub choice-other : has ≡ false → Running s t l m cells start budget out₀ work₀ out work' colours' due stay (used + 1)
+        unfolding stateOf
+        choice-other h =
+            let j = subst (Looked b (l .size) (choicesOn work) stay colours (choicesOn work') colours') h k in
+            subst (λ (p : Phase). Running s t l m cells start budget out₀ work₀ out work' colours' p stay (used + 1)) (sym q)
+            (tried-on phase.Choose (rw (j .leaves refl) (r .rows)) (leads _ (next-other a b (choicesOn work) stay least candidate-there (sym (size-is s l (r .reads))) j)))
 
 -- the first turn
 pub running-start :

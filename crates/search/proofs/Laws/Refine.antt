@@ -35,7 +35,7 @@ use Rattle.search.specs.declared.machine.Phase.{Phase}
 use Rattle.search.specs.declared.machine.Phase.the-variants as phase
 use Rattle.search.specs.Machine.{Choice, refine, close, choose, choiceAt, afterStable, afterRound}
 use Rattle.search.specs.Answer.{workRoom}
-use Rattle.search.specs.Choices.{choiceLength, choicesOn, choicesIn, sidesIn, Rows, SmallSides, stateOf, Settled, Weighed, Opened}
+use Rattle.search.specs.Choices.{choiceLength, choicesOn, choicesIn, sidesIn, Rows, SmallSides, stateOf, Settled, Weighed, Opened, Looked}
 use Rattle.search.proofs.Laws.Choices.{opened-at}
 use Rattle.search.proofs.Theorems.Small.{after-round}
 
@@ -307,6 +307,18 @@ choices-back w new room long = record {
 
     past : drop boardRoom (take boardRoom w ++ (new ++ drop 12032 (drop boardRoom w))) ≡ new ++ drop 12032 (drop boardRoom w)
     past = drop-at (take boardRoom w) (new ++ drop 12032 (drop boardRoom w)) boardRoom front-long
+
+-- what is kept where a part for the choices was lent: room for so many, and what was looked at
+pub choices-fit : (w : List ℕ) (depth : ℕ) → workRoom ≤ length w → depth < maxElements → depth * choiceLength ≤ length (choicesOn w)
+choices-fit w depth room h = omega (arith, length-part w boardRoom 12032 room)
+
+module _ {w new w′ : List ℕ} (f : ChoicesBack w new w′) where
+  pub back-looked : {b : Model} {n depth : ℕ} {c₀ c : List (List ℕ)} {has : Bool} → Looked b n (choicesOn w) depth c₀ new c has → (x : Bool) → has ≡ x
+      → Looked b n (choicesOn w) depth c₀ (choicesOn w′) c x
+  back-looked {b} {n} {depth} {c₀} {c} k x e = subst (Looked b n (choicesOn w) depth c₀ (choicesOn w′) c) e (rw (f .choices) k)
+
+  pub back-kept : (take boardRoom w′ ≡ take boardRoom w) × (length w′ ≡ length w) × (drop workRoom w′ ≡ drop workRoom w)
+  back-kept = (f .front, f .long, f .rest)
 
 -- what a round leaves of the rows and the lent work: the board stands, two rows of 64 are there, at most one choice more is open, and nothing past
 -- the choices was changed
