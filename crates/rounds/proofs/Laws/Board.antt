@@ -1,6 +1,6 @@
 -- The board: colours and lines read from it, and what a write leaves of it. Assumes nothing.
 use Prim.Native.Nat.{ℕ, zero, suc, _+_, _-_, _<_, _≤_}
-use mathlib.Core.Path.{_≡_, refl, sym, _∙_, ap}
+use mathlib.Core.Path.{_≡_, refl, sym, _∙_, ap, subst}
 use mathlib.Core.List.{List, [], _∷_, _++_, append-assoc}
 use native.Mathlib.Nat.{zero-add, suc-add}
 use native.Mathlib.Omega.{arith}
@@ -8,7 +8,8 @@ use lib.ListN.{length, getD, set, take, drop, length-drop, length-append, take-a
 use lib.Seq.{getD-drop, length-take-le, drop-at, take-append-le, take-take, drop-drop, getD-append-add}
 use Rattle.lists.specs.Part.{part, over}
 use Rattle.lists.proofs.Laws.Every.{getD-inside}
-use Rattle.lists.proofs.Laws.Part.{length-part, getD-part}
+use Rattle.lists.proofs.Laws.Part.{length-part, getD-part, part-rest}
+use Rattle.lists.proofs.Laws.Chunk.{rest-back, written-chunk}
 use Rattle.lists.proofs.Laws.Over.{Written, written-none, written-length, written-more, written-all, length-over, getD-over, over-split}
 use Rattle.rounds.specs.Colours.{noColour, colourAt}
 use Rattle.rounds.specs.Board.{colourStart, lineOf, lineAt, overAt}
@@ -113,3 +114,12 @@ module _ (start : ℕ) (new old out : List ℕ) (j : ℕ) (at : WrittenAt start 
   pub written-at-all : length new ≤ j → out ≡ overAt start new old
   unfolding overAt
   written-at-all h = at .split ∙ ap (λ (t : List ℕ). take start old ++ t) (written-all (at .written) h)
+
+-- one chunk more of a list that is written over the front of another
+pub chunk-at : (new old out : List ℕ) (at : ℕ) (w : Written new old out at) (chunk rest : List ℕ) (left : drop at new ≡ chunk ++ rest) → Written new old (overAt at chunk out) (at + length chunk)
+unfolding overAt
+chunk-at new old out at w chunk rest left =
+    subst
+    (λ (l : List ℕ). Written new old l (at + length chunk))
+    (rest-back out (over chunk (part out at (length out - at))) at ∙ ap (λ (l : List ℕ). take at out ++ over chunk l) (part-rest out at))
+    (written-chunk w chunk rest left (over chunk (part out at (length out - at))) refl)

@@ -73,16 +73,14 @@ module _ (s : List ℕ) (rows : List (List ℕ)) (start a c : ℕ) (there : Rows
   pub rows-inside : start + c * a ≤ length s
   rows-inside = omega (arith, there .begins, there .inside, length-part s start (length s - start) (omega (arith, there .begins)))
 
-  pub rows-flat : part s start (start + c * a - start) ≡ flat rows
+  pub rows-flat : part s start (c * a) ≡ flat rows
   rows-flat =
-      let e : start + c * a - start ≡ c * a = omega arith in
-      ap (part s start) e
-      ∙ sym (take-part s start (length s - start) (c * a) (omega (arith, rows-inside)))
+      sym (take-part s start (length s - start) (c * a) (omega (arith, rows-inside)))
       ∙ sym (flat-rowsOf a c (part s start (length s - start)))
       ∙ ap flat (there .same)
 
-  pub rows-length : length (flat rows) ≡ start + c * a - start
-  rows-length = ap length (sym rows-flat) ∙ length-part s start (start + c * a - start) (omega (arith, rows-inside))
+  pub rows-length : length (flat rows) ≡ c * a
+  rows-length = ap length (sym rows-flat) ∙ length-part s start (c * a) rows-inside
 
 module _ (a b : Model) where
   -- the cells of a relation: the left's, then the right's
