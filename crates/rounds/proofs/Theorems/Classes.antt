@@ -1,7 +1,7 @@
 -- Classes: what `smallestOpen` and `lowestOf` answer, and how a round that goes on, one that is stable and a new colour for the lowest representative of
 -- an open class change the number of left colours. Assumes nothing.
 use Prim.Native.Nat.{ℕ, zero, suc, _+_, _<_, _≤_, zero-le}
-use mathlib.Core.Path.{_≡_, sym, _∙_, ap, subst}
+use mathlib.Core.Path.{_≡_, refl, sym, _∙_, ap, subst}
 use mathlib.Core.Logic.{_⊎_, inl, inr, by-cases}
 use mathlib.Core.Bool.{Bool, true, false, _&&_}
 use mathlib.Core.List.{List, map, List·Memᴰ}
@@ -174,6 +174,25 @@ module _ (m : Model) (colours : List ℕ) where
     pub lowest-coloured : colourAt colours (lowestOf m colours k) ≡ k
     lowest-coloured = eqb-true _ k (and-right (isRep m (lowestOf m colours k)) _ lowest-tested)
 
+-- what colours come to, where the left had so many before
+module _ (a b : Model) (before : ℕ) (c : Sides) where
+  pub comes-dead : equalCounts a b c ≡ false → outcome a b before c ≡ dead
+  unfolding outcome
+  comes-dead e = rw (e, outcome)
+
+  pub comes-stable : equalCounts a b c ≡ true → eqb (colourCount a (c .left)) before ≡ true → outcome a b before c ≡ stable c
+  unfolding outcome
+  comes-stable e q = rw (e, outcome, q)
+
+  pub comes-again : equalCounts a b c ≡ true → eqb (colourCount a (c .left)) before ≡ false → outcome a b before c ≡ again c
+  unfolding outcome
+  comes-again e q = rw (e, outcome, q)
+
+-- what a round comes to is what its colours come to
+pub round-comes : (a b : Model) (c : Sides) → roundOutcome a b c ≡ outcome a b (colourCount a (c .left)) (round a b c)
+unfolding roundOutcome
+round-comes a b c = refl
+
 -- what a round that goes on and one that is stable come to
 module _ (a b : Model) (c d : Sides) where
   -- the counts are equal, and the colours are those of the round
@@ -188,16 +207,13 @@ module _ (a b : Model) (c d : Sides) where
   countAfter = colourCount a (round a b c .left)
 
   outcome-dead : equalCounts a b (round a b c) ≡ false → roundOutcome a b c ≡ dead
-  unfolding roundOutcome outcome
-  outcome-dead e = rw (e, outcome)
+  outcome-dead e = round-comes a b c ∙ comes-dead a b countBefore (round a b c) e
 
   pub outcome-stable : equalCounts a b (round a b c) ≡ true → eqb countAfter countBefore ≡ true → roundOutcome a b c ≡ stable (round a b c)
-  unfolding roundOutcome outcome
-  outcome-stable e q = rw (e, outcome, q)
+  outcome-stable e q = round-comes a b c ∙ comes-stable a b countBefore (round a b c) e q
 
   pub outcome-again : equalCounts a b (round a b c) ≡ true → eqb countAfter countBefore ≡ false → roundOutcome a b c ≡ again (round a b c)
-  unfolding roundOutcome outcome
-  outcome-again e q = rw (e, outcome, q)
+  outcome-again e q = round-comes a b c ∙ comes-again a b countBefore (round a b c) e q
 
   pub when-stable : roundOutcome a b c ≡ stable d → Judged × (countAfter ≡ countBefore)
   when-stable h = go (split (equalCounts a b (round a b c))) (split (eqb countAfter countBefore))
