@@ -12,7 +12,7 @@ use Rattle.lists.specs.Numbers.{upFrom}
 use Rattle.lists.specs.Part.{part, over}
 use Rattle.stored.specs.Model.{Model, size, isRep}
 use Rattle.rounds.specs.Colours.{colourAt}
-use Rattle.rounds.specs.Round.{Sides, coloursOf, colourCount, round, roundOutcome}
+use Rattle.rounds.specs.Round.{Sides, coloursOf, colourCount, outcome}
 use Rattle.rounds.specs.Parts.{areSmall}
 use Rattle.search.specs.declared.machine.Phase.{Phase}
 use Rattle.search.specs.declared.machine.Phase.the-variants as phase
@@ -86,10 +86,9 @@ pub record Settled (a : Model) (left right w₀ : List ℕ) (depth : ℕ) (due :
       → stateOf due (record { left = left; right = right }) (choicesIn a b w after) ≡ afterStable a b (record { left = left; right = right }) (choicesIn a b w₀ depth) (smallestOpen a left)
   pub within : after ≤ depth + 1
 
--- what colours come to as those after a round, where the left had so many before it: the phase, the open choices before it and after it, and, where another round is due, how many colours the
--- left has
+-- what the colours after a round lead to, where the left had so many before it: the phase, the open choices before and after, and, where another round is due, how many colours the left has
 pub record Weighed (a b : Model) (c : Sides) (before : ℕ) (w₀ : List ℕ) (depth : ℕ) (due : Phase) (after count : ℕ) (w : List ℕ) : Type 0 where
-  pub leads : (c₀ : Sides) → c ≡ round a b c₀ → before ≡ colourCount a (c₀ .left) → stateOf due c (choicesIn a b w after) ≡ afterRound a b (choicesIn a b w₀ depth) (roundOutcome a b c₀)
+  pub leads : stateOf due c (choicesIn a b w after) ≡ afterRound a b (choicesIn a b w₀ depth) (outcome a b before c)
   pub within : after ≤ depth + 1
   pub counted : due ≡ phase.Refine → count ≡ colourCount a (c .left)
 

@@ -13,7 +13,6 @@ use Rattle.lists.proofs.Laws.Different.{keep-fits}
 use Rattle.lists.proofs.Laws.First.{lowest-within}
 use Rattle.lists.proofs.Laws.Numbers.{length-upFrom}
 use Rattle.lists.proofs.Laws.Part.{length-part}
-use Rattle.lists.proofs.Laws.Tests.{clash}
 use Rattle.stored.specs.declared.layout.Layout.{Layout}
 use Rattle.stored.specs.Limits.{maxElements}
 use Rattle.stored.specs.Model.{Model, size, isRep}
@@ -26,10 +25,10 @@ use Rattle.rounds.specs.declared.classes.Open.the-variants as found
 use Rattle.rounds.specs.Board.{boardRoom, Board}
 use Rattle.rounds.specs.Classes.{allSingle, openAt, openOf, smallestOpen, lowestOf}
 use Rattle.rounds.specs.Parts.{areSmall, hasColour}
-use Rattle.rounds.specs.Round.{Sides, coloursOf, Outcome, dead, stable, again, colourCount, equalCounts, round, roundOutcome}
+use Rattle.rounds.specs.Round.{Sides, coloursOf, Outcome, dead, stable, again, colourCount, equalCounts, outcome, round, roundOutcome}
 use Rattle.rounds.proofs.Laws.Classes.{open-none, open-at}
 use Rattle.rounds.proofs.Laws.Parts.{lowest-handed}
-use Rattle.rounds.proofs.Theorems.Classes.{count-fits, outcome-stable, outcome-again, when-stable, when-again}
+use Rattle.rounds.proofs.Theorems.Classes.{count-fits, comes-dead, comes-stable, comes-again, round-comes}
 use Rattle.rounds.proofs.Theorems.Keys.{reps-kept}
 use Rattle.search.specs.declared.machine.Phase.{Phase}
 use Rattle.search.specs.declared.machine.Phase.the-variants as phase
@@ -123,15 +122,6 @@ module _ (a b : Model) (choices : List Choice) where
   unfolding afterRound
   round-stable c = refl
 
--- a round with unequal counts is a dead end
-dead-end : (a b : Model) (c : Sides) → equalCounts a b (round a b c) ≡ false → roundOutcome a b c ≡ dead
-dead-end a b c f = go (roundOutcome a b c) refl
-  where
-    go : (o : Outcome) → roundOutcome a b c ≡ o → roundOutcome a b c ≡ dead
-    go dead q = q
-    go (stable d) q = clash (when-stable a b c d q .0 .equal) f
-    go (again d) q = clash (when-again a b c d q .0 .equal) f
-
 -- a row of 64 has room for a side
 module _ (s : List ℕ) (l : Layout) (r : Reads s l) (row : List ℕ) (h : length row ≡ 64) where
   pub side-room : l .size ≤ length row
@@ -151,33 +141,25 @@ module _ (a b : Model) (left right : List ℕ) (before : ℕ) (equal : Bool) (to
   abbrev both : Sides
   both = record { left = left; right = right }
 
-  equal-is : (c₀ : Sides) → both ≡ round a b c₀ → (x : Bool) → equal ≡ x → equalCounts a b (round a b c₀) ≡ x
-  equal-is c₀ e x q = sym (ap (equalCounts a b) e) ∙ sym told ∙ q
-
   -- a dead end
   pub weighed-dead : equal ≡ false → Weighed a b both before w₀ depth phase.Choose depth 0 w₀
   weighed-dead q = record {
-    leads = λ c₀ e _.
+    leads =
         state-choose both (choicesIn a b w₀ depth)
         ∙ sym (round-dead a b (choicesIn a b w₀ depth))
-        ∙ ap (afterRound a b (choicesIn a b w₀ depth)) (sym (dead-end a b c₀ (equal-is c₀ e false q)));
+        ∙ ap (afterRound a b (choicesIn a b w₀ depth)) (sym (comes-dead a b before both (sym told ∙ q)));
     within = omega arith;
     counted = λ e. choose-no-round e;
   }
 
   module _ (q : equal ≡ true) (count : ℕ) (has : count ≡ colourCount a left) where
-    has-new : (c₀ : Sides) → both ≡ round a b c₀ → count ≡ colourCount a (round a b c₀ .left)
-    has-new c₀ e = has ∙ ap (λ (x : Sides). colourCount a (x .left)) e
-
     -- more colours than before: another round
     pub weighed-again : (count ≡ before → ⊥) → Weighed a b both before w₀ depth phase.Refine depth count w₀
     weighed-again d = record {
-      leads = λ c₀ e had.
+      leads =
           state-refine both (choicesIn a b w₀ depth)
-          ∙ ap (λ (x : Sides). refine x (choicesIn a b w₀ depth)) e
-          ∙ sym (round-again a b (choicesIn a b w₀ depth) (round a b c₀))
-          ∙ ap (afterRound a b (choicesIn a b w₀ depth))
-          (sym (outcome-again a b c₀ (round a b c₀) (equal-is c₀ e true q) (ne-eqb _ _ (λ k. d (has-new c₀ e ∙ k ∙ sym had)))));
+          ∙ sym (round-again a b (choicesIn a b w₀ depth) both)
+          ∙ ap (afterRound a b (choicesIn a b w₀ depth)) (sym (comes-again a b before both (sym told ∙ q) (ne-eqb _ _ (λ k. d (has ∙ k)))));
       within = omega arith;
       counted = λ _. has;
     }
@@ -187,11 +169,10 @@ module _ (a b : Model) (left right : List ℕ) (before : ℕ) (equal : Bool) (to
         count ≡ before → length right ≡ size b → {due : Phase} {after : ℕ} {w : List ℕ} → Settled a left right w₀ depth due after w → (k : ℕ) → k ≡ count
         → Weighed a b both before w₀ depth due after k w
     weighed-stable same long o k is = record {
-      leads = λ c₀ e had.
+      leads =
           o .settled b (sym long)
-          ∙ ap (λ (x : Sides). afterStable a b x (choicesIn a b w₀ depth) (smallestOpen a (x .left))) e
-          ∙ sym (round-stable a b (choicesIn a b w₀ depth) (round a b c₀))
-          ∙ ap (afterRound a b (choicesIn a b w₀ depth)) (sym (outcome-stable a b c₀ (round a b c₀) (equal-is c₀ e true q) (eq-eqb _ _ (sym (has-new c₀ e) ∙ same ∙ had))));
+          ∙ sym (round-stable a b (choicesIn a b w₀ depth) both)
+          ∙ ap (afterRound a b (choicesIn a b w₀ depth)) (sym (comes-stable a b before both (sym told ∙ q) (eq-eqb _ _ (sym has ∙ same))));
       within = o .within;
       counted = λ _. is ∙ has;
     }
@@ -332,8 +313,8 @@ module _ {a b : Model} {cells : ℕ} (c₀ c : List (List ℕ)) (w₀ : List ℕ
       → stateOf due (sidesIn a b c) (choicesIn a b (choicesOn w₃) after) ≡ afterRound a b (choicesIn a b (choicesOn w₀) depth) (roundOutcome a b (sidesIn a b c₀))
   refined-state had =
       ap (λ (y : List ℕ). stateOf due (sidesIn a b c) (choicesIn a b y after)) (back .choices)
-      ∙ u .leads (sidesIn a b c₀) is-round had
-      ∙ ap (λ (y : List ℕ). afterRound a b (choicesIn a b y depth) (roundOutcome a b (sidesIn a b c₀))) (on .1)
+      ∙ u .leads
+      ∙ ap₂ (λ (y : List ℕ) (z : Outcome). afterRound a b (choicesIn a b y depth) z) (on .1) (ap₂ (outcome a b) had is-round ∙ sym (round-comes a b (sidesIn a b c₀)))
 
   pub refined-kept : Rows c → Left a b cells c depth after w₀ w₃
   refined-kept rows = (rw (back .front) (on .0), rows, u .within, back .long ∙ on .2, back .rest ∙ on .3)
