@@ -4,7 +4,7 @@ use Prim.Native.Nat.{ℕ, zero, suc, _+_, _-_, _*_, _<_, _≤_}
 use mathlib.Core.Path.{_≡_}
 use mathlib.Core.Bool.{Bool, true, false}
 use mathlib.Core.List.{List, [], _∷_}
-use lib.ListN.{length, getD, take}
+use lib.ListN.{length, getD, take, drop}
 use lib.Dec.{eqb}
 use Rattle.lists.specs.Every.{keep}
 use Rattle.lists.specs.First.{lowest}
@@ -14,9 +14,11 @@ use Rattle.stored.specs.Model.{Model, size, isRep}
 use Rattle.rounds.specs.Colours.{colourAt}
 use Rattle.rounds.specs.Round.{Sides, coloursOf, colourCount, outcome}
 use Rattle.rounds.specs.Parts.{areSmall}
+use Rattle.rounds.specs.Board.{boardRoom}
 use Rattle.search.specs.declared.machine.Phase.{Phase}
 use Rattle.search.specs.declared.machine.Phase.the-variants as phase
 use Rattle.rounds.specs.Classes.{smallestOpen}
+use Rattle.search.specs.Answer.{workRoom}
 use Rattle.search.specs.Machine.{Choice, State, refine, close, choose, goneOn, tried, nextChoice, afterStable, afterRound}
 
 -- where the choices start in the lent work, and how many entries are left for them
@@ -79,6 +81,10 @@ stateOf phase.Choose c choices = choose choices
 unfoldable pub writtenIf : Bool → List ℕ → List ℕ → List ℕ
 writtenIf true f out = over f out
 writtenIf false f out = out
+
+-- two states of the lent work that differ in the choices alone
+abbrev pub OnlyChoices : List ℕ → List ℕ → Type 0
+OnlyChoices w₀ w = (take boardRoom w ≡ take boardRoom w₀) × (length w ≡ length w₀) × (drop workRoom w ≡ drop workRoom w₀)
 
 -- what a stable round leads to: the phase and the open choices before it and after it
 pub record Settled (a : Model) (left right w₀ : List ℕ) (depth : ℕ) (due : Phase) (after : ℕ) (w : List ℕ) : Type 0 where

@@ -22,7 +22,7 @@ ghost use Rattle.search.specs.Answer.{answerOf, written, cleared, workRo
 ghost use Rattle.search.specs.Find.{roundCost, startFrom};
 ghost use Rattle.search.specs.Find as calls;
 ghost use Rattle.search.specs.Closing.{OneToOne};
-ghost use Rattle.search.specs.Choices.{choiceLength, choicesOn, candidateIn, choicesIn, sidesIn, stateOf, Rows, SmallSides, writtenIf, Settled, Weighed, Reopened, Looked};
+ghost use Rattle.search.specs.Choices.{choiceLength, choicesOn, candidateIn, choicesIn, sidesIn, stateOf, Rows, SmallSides, writtenIf, OnlyChoices, Settled, Weighed, Opened, Reopened, Looked};
 use crate::answer::Answer;
 use crate::choices::open_choice;
 use crate::choices::reopen;
@@ -63,6 +63,31 @@ pub struct Turn {
     pub count: usize,
 }
 
+// Opens a choice above so many open ones in the lent work: no right element is looked at yet.
+fn open_above(
+    work: &mut [u16],
+    depth: usize,
+    left: &[u16],
+    right: &[u16],
+    element: u16,
+    old: u16,
+    new: u16,
+)
+    requires { ⌜ (workRoom ≤ length (now work)) × (depth < maxElements) × (length (now left) ≤ maxElements) × (length (now right) ≤ maxElements) ⌝ }
+    ensures opened { λ _. ⌜ Opened (choicesOn (now (work .entry))) depth (now (left .entry)) (now (right .entry)) element old new (choicesOn (now (work .exit))) ⌝ }
+    ensures kept { λ _. ⌜ OnlyChoices (now (work .entry)) (now (work .exit)) ⌝ }
+{
+    open_choice(
+        &mut work[BOARD..ROOM],
+        depth,
+        left,
+        right,
+        element,
+        old,
+        new,
+    );
+}
+
 // After a stable round: a choice is opened at the smallest left class with two or more members; where all are single the closing check is due.
 fn settle(
     left: &[u8],
@@ -71,12 +96,13 @@ fn settle(
     other: &[u16],
     count: usize,
     table: &[u8],
-    choices: &mut [u16],
+    work: &mut [u16],
     depth: usize,
 ) -> Turn
-    requires { ⌜ Reads (now left) «in_left» × (length (now row) ≡ size (modelOf (now left))) × (length (now other) ≤ maxElements) × (count ≡ colourCount (modelOf (now left)) (now row)) × (depth * choiceLength + choiceLength ≤ length (now choices)) × CountsOf (now table) (coloursOf (modelOf (now left)) (now row)) ⌝ }
-    ensures settled { λ r. ⌜ Settled (modelOf (now (left .entry))) (now (row .entry)) (now (other .entry)) (now (choices .entry)) depth (r .phase) (r .depth) (now (choices .exit)) ⌝ }
+    requires { ⌜ Reads (now left) «in_left» × (length (now row) ≡ size (modelOf (now left))) × (length (now other) ≤ maxElements) × (count ≡ colourCount (modelOf (now left)) (now row)) × (workRoom ≤ length (now work)) × (depth < maxElements) × CountsOf (now table) (coloursOf (modelOf (now left)) (now row)) ⌝ }
+    ensures settled { λ r. ⌜ Settled (modelOf (now (left .entry))) (now (row .entry)) (now (other .entry)) (choicesOn (now (work .entry))) depth (r .phase) (r .depth) (choicesOn (now (work .exit))) ⌝ }
     ensures count { λ r. ⌜ r .count ≡ count ⌝ }
+    ensures kept { λ _. ⌜ OnlyChoices (now (work .entry)) (now (work .exit)) ⌝ }
 {
     match smallest_open(left, in_left, table) {
         Open::AllSingle => Turn {
@@ -86,7 +112,7 @@ fn settle(
         },
         Open::At(k) => {
             let x = lowest_of(left, in_left, row, k);
-            open_choice(choices, depth, row, other, x as u16, k.0, count as u16);
+            open_above(work, depth, row, other, x as u16, k.0, count as u16);
             Turn {
                 phase: Phase::Choose,
                 depth: depth + 1,
@@ -105,11 +131,12 @@ fn weigh(
     row: &[u16],
     other: &[u16],
     before: usize,
-    choices: &mut [u16],
+    work: &mut [u16],
     depth: usize,
 ) -> Turn
-    requires { ⌜ Reads (now left) «in_left» × Reads (now right) «in_right» × (length (now row) ≡ size (modelOf (now left))) × (length (now other) ≡ size (modelOf (now right))) × (areSmall (coloursOf (modelOf (now left)) (now row)) ≡ true) × (areSmall (coloursOf (modelOf (now right)) (now other)) ≡ true) × (depth * choiceLength + choiceLength ≤ length (now choices)) ⌝ }
-    ensures { λ r. ⌜ Weighed (modelOf (now (left .entry))) (modelOf (now (right .entry))) (record { left = now (row .entry); right = now (other .entry) }) before (now (choices .entry)) depth (r .phase) (r .depth) (r .count) (now (choices .exit)) ⌝ }
+    requires { ⌜ Reads (now left) «in_left» × Reads (now right) «in_right» × (length (now row) ≡ size (modelOf (now left))) × (length (now other) ≡ size (modelOf (now right))) × (areSmall (coloursOf (modelOf (now left)) (now row)) ≡ true) × (areSmall (coloursOf (modelOf (now right)) (now other)) ≡ true) × (workRoom ≤ length (now work)) × (depth < maxElements) ⌝ }
+    ensures weighed { λ r. ⌜ Weighed (modelOf (now (left .entry))) (modelOf (now (right .entry))) (record { left = now (row .entry); right = now (other .entry) }) before (choicesOn (now (work .entry))) depth (r .phase) (r .depth) (r .count) (choicesOn (now (work .exit))) ⌝ }
+    ensures kept { λ _. ⌜ OnlyChoices (now (work .entry)) (now (work .exit)) ⌝ }
 {
     let both = count_both(left, in_left, right, in_right, row, other);
     if !both.equal {
@@ -127,16 +154,7 @@ fn weigh(
         };
     }
     let table = both.table;
-    settle(
-        left,
-        in_left,
-        row,
-        other,
-        both.count,
-        &table,
-        choices,
-        depth,
-    )
+    settle(left, in_left, row, other, both.count, &table, work, depth)
 }
 
 // One round on the board, which is the front of the lent work.
@@ -197,7 +215,7 @@ fn refine(
         &row[..n],
         &other[..m],
         before,
-        &mut work[BOARD..ROOM],
+        work,
         depth,
     )
 }
@@ -283,13 +301,7 @@ fn still_open(right: &[u8], in_right: Layout, work: &[u16], depth: usize) -> usi
     reopen(right, in_right, &work[BOARD..ROOM], depth)
 }
 
-// What a candidate looked at comes to: whether it has the choice's colour, and, where it has, how many colours there are when it is tried.
-struct Look {
-    same: bool,
-    count: usize,
-}
-
-// Looks at the next candidate of the latest of so many open choices. Where it has the choice's colour, `colours` are those to go on with; else they are unchanged.
+// Looks at the next candidate of the latest of so many open choices, and answers whether it has the choice's colour. Where it has, `colours` are those to go on with; else they are unchanged.
 fn try_latest(
     right: &[u8],
     in_right: Layout,
@@ -297,20 +309,20 @@ fn try_latest(
     work: &mut [u16],
     depth: usize,
     colours: &mut Rows,
-) -> Look
+) -> bool
     requires { ⌜ Reads (now right) «in_right» × (workRoom ≤ length (now work)) × (1 ≤ depth) × (depth < maxElements) × (candidateIn (modelOf (now right)) (choicesOn (now work)) (depth - 1) < size (modelOf (now right))) × (getD (choicesOn (now work)) ((depth - 1) * choiceLength + 128) 0 < n) × (n ≤ maxElements) ⌝ }
-    ensures looked { λ r. ⌜ Looked (modelOf (now (right .entry))) n (choicesOn (now (work .entry))) depth (now (colours .entry)) (choicesOn (now (work .exit))) (now (colours .exit)) (r .same) ⌝ }
-    ensures count { λ r. ⌜ (r .same ≡ true → r .count ≡ getD (choicesOn (now (work .exit))) ((depth - 1) * choiceLength + 130) 0 + 1) ⌝ }
-    ensures work { λ _. ⌜ (take boardRoom (now (work .exit)) ≡ take boardRoom (now (work .entry))) × (length (now (work .exit)) ≡ length (now (work .entry))) × (drop workRoom (now (work .exit)) ≡ drop workRoom (now (work .entry))) ⌝ }
+    ensures looked { λ r. ⌜ Looked (modelOf (now (right .entry))) n (choicesOn (now (work .entry))) depth (now (colours .entry)) (choicesOn (now (work .exit))) (now (colours .exit)) r ⌝ }
+    ensures kept { λ _. ⌜ OnlyChoices (now (work .entry)) (now (work .exit)) ⌝ }
 {
-    if try_choice(right, in_right, n, &mut work[BOARD..ROOM], depth, colours) {
-        let count = tried_count(&work[BOARD..ROOM], depth);
-        return Look { same: true, count };
-    }
-    Look {
-        same: false,
-        count: 0,
-    }
+    try_choice(right, in_right, n, &mut work[BOARD..ROOM], depth, colours)
+}
+
+// How many colours there are when a candidate of the latest of so many open choices is tried.
+fn latest_count(work: &[u16], depth: usize) -> usize
+    requires { ⌜ (workRoom ≤ length (now work)) × (1 ≤ depth) × (depth < maxElements) ⌝ }
+    ensures { λ r. ⌜ r ≡ getD (choicesOn (now (work .entry))) ((depth - 1) * choiceLength + 130) 0 + 1 ⌝ }
+{
+    tried_count(&work[BOARD..ROOM], depth)
 }
 
 // The machine's run from some colours with no open choice (`search` of model_hom.rs).
@@ -376,10 +388,9 @@ fn run(
                     return Answer::Exhausted(used); // a candidate is due
                 }
                 depth = stay;
-                let look = try_latest(right, in_right, in_left.size, work, stay, &mut colours);
-                if look.same {
+                if try_latest(right, in_right, in_left.size, work, stay, &mut colours) {
                     used += 1; // a candidate of the colour
-                    count = look.count;
+                    count = latest_count(work, stay);
                     phase = Phase::Refine;
                 } else {
                     used += 1; // a candidate of another colour

@@ -35,7 +35,7 @@ use Rattle.search.specs.Machine.{Choice, State, refine, close, choose, d
 use Rattle.search.specs.Answer.{answerOf, written, workRoom, ended}
 use Rattle.search.specs.Find.{alike}
 use Rattle.search.specs.Closing.{OneToOne}
-use Rattle.search.specs.Choices.{choiceLength, choicesOn, choiceIn, candidateIn, choicesIn, sidesIn, stateOf, Rows, SmallSides, writtenIf, Reopened, Looked}
+use Rattle.search.specs.Choices.{choiceLength, choicesOn, choiceIn, candidateIn, choicesIn, sidesIn, stateOf, Rows, SmallSides, writtenIf, OnlyChoices, Reopened, Looked}
 use Rattle.search.proofs.Laws.Run.{run-there, run-nowhere, run-takes, run-out}
 use Rattle.search.proofs.Laws.Refine.{choose-no-round}
 use Rattle.search.proofs.Laws.Choices.{choice-goes, next-none, next-same, next-other}
@@ -344,7 +344,7 @@ module _ {s t : List ℕ} {l m : Layout} {cells : ℕ} {start : List (List ℕ)}
 
       -- the candidate was looked at
       module _ (n : used ≡ budget → ⊥) {work' : List ℕ} {colours' : List (List ℕ)} {has : Bool} (k : Looked b (l .size) (choicesOn work) stay colours (choicesOn work') colours' has)
-          (same : (take boardRoom work' ≡ take boardRoom work) × (length work' ≡ length work) × (drop workRoom work' ≡ drop workRoom work)) where
+          (same : OnlyChoices work work') where
         tried-on : (due' : Phase) → Rows colours' → step 1 a b (choose now-choices) ≡ takes 1 (stateOf due' (sidesIn a b colours') (choicesIn a b (choicesOn work') stay))
             → Running s t l m cells start budget out₀ work₀ out work' colours' due' stay (used + 1)
         tried-on due' rows' e = record {

@@ -34,7 +34,7 @@ use Rattle.search.specs.declared.machine.Phase.{Phase}
 use Rattle.search.specs.declared.machine.Phase.the-variants as phase
 use Rattle.search.specs.Machine.{Choice, refine, close, choose, choiceAt, afterStable, afterRound}
 use Rattle.search.specs.Answer.{workRoom}
-use Rattle.search.specs.Choices.{choiceLength, choicesOn, choicesIn, sidesIn, Rows, SmallSides, stateOf, Settled, Weighed, Opened, Looked}
+use Rattle.search.specs.Choices.{choiceLength, choicesOn, choicesIn, sidesIn, Rows, SmallSides, stateOf, OnlyChoices, Settled, Weighed, Opened, Looked}
 use Rattle.search.proofs.Laws.Choices.{opened-at}
 use Rattle.search.proofs.Theorems.Small.{after-round}
 
@@ -254,9 +254,6 @@ OnBoard a b cells w w′ = Board a b cells (take boardRoom w′) × (choicesOn w
 pub board-kept : {w new w′ : List ℕ} → BoardBack w new w′ → (a b : Model) (cells : ℕ) → Board a b cells new → OnBoard a b cells w w′
 board-kept f a b cells h = (rw (f .front) h, f .choices, f .long, f .rest)
 
-pub choices-room : (w : List ℕ) (depth : ℕ) → workRoom ≤ length w → depth < maxElements → depth * choiceLength + choiceLength ≤ length (choicesOn w)
-choices-room w depth room h = omega (arith, length-part w boardRoom 12032 room)
-
 -- the lent work with its second part come back: the choices are what came back, the board and all past the choices are as they were
 pub record ChoicesBack (w new w′ : List ℕ) : Type 0 where
   pub front : take boardRoom w′ ≡ take boardRoom w
@@ -289,17 +286,23 @@ choices-back w new room long = record {
     past : drop boardRoom (take boardRoom w ++ (new ++ drop 12032 (drop boardRoom w))) ≡ new ++ drop 12032 (drop boardRoom w)
     past = drop-at (take boardRoom w) (new ++ drop 12032 (drop boardRoom w)) boardRoom front-long
 
--- what is kept where a part for the choices was lent: room for so many, and what was looked at
+module _ {w new w′ : List ℕ} (f : ChoicesBack w new w′) where
+  pub back-opened : {depth element old newest : ℕ} {left right : List ℕ} → Opened (choicesOn w) depth left right element old newest new → Opened (choicesOn w) depth left right element old newest (choicesOn w′)
+  back-opened o = rw (f .choices) o
+
+  pub back-looked : {b : Model} {n depth : ℕ} {c₀ c : List (List ℕ)} {has : Bool} → Looked b n (choicesOn w) depth c₀ new c has → Looked b n (choicesOn w) depth c₀ (choicesOn w′) c has
+  back-looked k = rw (f .choices) k
+
+  pub back-kept : OnlyChoices w w′
+  back-kept = (f .front, f .long, f .rest)
+
+-- room for so many choices
 pub choices-fit : (w : List ℕ) (depth : ℕ) → workRoom ≤ length w → depth < maxElements → depth * choiceLength ≤ length (choicesOn w)
 choices-fit w depth room h = omega (arith, length-part w boardRoom 12032 room)
 
-module _ {w new w′ : List ℕ} (f : ChoicesBack w new w′) where
-  pub back-looked : {b : Model} {n depth : ℕ} {c₀ c : List (List ℕ)} {has : Bool} → Looked b n (choicesOn w) depth c₀ new c has → (x : Bool) → has ≡ x
-      → Looked b n (choicesOn w) depth c₀ (choicesOn w′) c x
-  back-looked {b} {n} {depth} {c₀} {c} k x e = subst (Looked b n (choicesOn w) depth c₀ (choicesOn w′) c) e (rw (f .choices) k)
-
-  pub back-kept : (take boardRoom w′ ≡ take boardRoom w) × (length w′ ≡ length w) × (drop workRoom w′ ≡ drop workRoom w)
-  back-kept = (f .front, f .long, f .rest)
+-- and for one more
+pub choices-room : (w : List ℕ) (depth : ℕ) → workRoom ≤ length w → depth < maxElements → depth * choiceLength + choiceLength ≤ length (choicesOn w)
+choices-room w depth room h = omega (arith, length-part w boardRoom 12032 room)
 
 -- what a round leaves of the rows and the lent work: the board stands, two rows of 64 are there, at most one choice more is open, and nothing past
 -- the choices was changed
@@ -307,14 +310,13 @@ abbrev pub Left : Model → Model → ℕ → List (List ℕ) → ℕ → ℕ �
 Left a b cells c depth left w w′ = Board a b cells (take boardRoom w′) × Rows c × (left ≤ depth + 1) × (length w′ ≡ length w) × (drop workRoom w′ ≡ drop workRoom w)
 
 -- a round, and what its colours come to
-module _ {a b : Model} {cells : ℕ} (c₀ c : List (List ℕ)) (w₀ : List ℕ) {w₁ : List ℕ} (is-round : sidesIn a b c ≡ round a b (sidesIn a b c₀)) (on : OnBoard a b cells w₀ w₁) {w₂ w₃ : List ℕ} (back : ChoicesBack w₁ w₂ w₃)
-    {before depth after count : ℕ} {due : Phase} (u : Weighed a b (sidesIn a b c) before (choicesOn w₁) depth due after count w₂) where
+module _ {a b : Model} {cells : ℕ} (c₀ c : List (List ℕ)) (w₀ w₁ w₂ : List ℕ) (is-round : sidesIn a b c ≡ round a b (sidesIn a b c₀)) (on : OnBoard a b cells w₀ w₁) (same : OnlyChoices w₁ w₂)
+    {before depth after count : ℕ} {due : Phase} (u : Weighed a b (sidesIn a b c) before (choicesOn w₁) depth due after count (choicesOn w₂)) where
   pub refined-state : before ≡ colourCount a (sidesIn a b c₀ .left)
-      → stateOf due (sidesIn a b c) (choicesIn a b (choicesOn w₃) after) ≡ afterRound a b (choicesIn a b (choicesOn w₀) depth) (roundOutcome a b (sidesIn a b c₀))
+      → stateOf due (sidesIn a b c) (choicesIn a b (choicesOn w₂) after) ≡ afterRound a b (choicesIn a b (choicesOn w₀) depth) (roundOutcome a b (sidesIn a b c₀))
   refined-state had =
-      ap (λ (y : List ℕ). stateOf due (sidesIn a b c) (choicesIn a b y after)) (back .choices)
-      ∙ u .leads
+      u .leads
       ∙ ap₂ (λ (y : List ℕ) (z : Outcome). afterRound a b (choicesIn a b y depth) z) (on .1) (ap₂ (outcome a b) had is-round ∙ sym (round-comes a b (sidesIn a b c₀)))
 
-  pub refined-kept : Rows c → Left a b cells c depth after w₀ w₃
-  refined-kept rows = (rw (back .front) (on .0), rows, u .within, back .long ∙ on .2, back .rest ∙ on .3)
+  pub refined-kept : Rows c → Left a b cells c depth after w₀ w₂
+  refined-kept rows = (rw (same .0) (on .0), rows, u .within, same .1 ∙ on .2, same .2 ∙ on .3)

@@ -138,16 +138,29 @@ try-latest-requires c κs =
 add-used-3 : tie.Need-add-used-3 Inv-loop μ-loop
 add-used-3 c = omega (arith, c .before .before .before .before .before .before .before .before .before .before .before .before .loop .inv .0 .goes .spent, c .before .before .before .before .before .before .if5 .left, c .before .before .before .before .before .before .before .before .before .before .before .before .before .before .before .before .before .before .fits .budget)
 
+latest-count-requires : tie.Need-latest-count-requires Inv-loop μ-loop
+latest-count-requires c κs =
+    let d = c .before in
+    let k = d .before .before .before .try-latest .ensures in
+    let o = d .before .before .before .before .before .before .before .before in
+    let q = o .before .before .enum-told3 .given .1 in
+    let r = o .before .before .before .before .loop .inv .0 in
+    let some = d .before .before .before .before .before .before .before .if4 .left in
+    (omega (arith, work-room r, k .1 .1), omega (arith, some), stay-few r q (o .still-open .ensures) some)
+
 loop-less-3 : tie.Need-loop-less-3 Inv-loop μ-loop
-loop-less-3 c = omega (arith, c .before .before .before .before .before .before .before .before .before .before .before .before .loop .inv .0 .goes .spent, c .before .before .before .before .before .before .if5 .left)
+loop-less-3 c =
+    let d = c .before .before in
+    omega (arith, d .before .before .before .before .before .before .before .before .before .before .before .before .loop .inv .0 .goes .spent, d .before .before .before .before .before .before .if5 .left)
 
 loop-again-3 : tie.Need-loop-again-3 Inv-loop μ-loop
 loop-again-3 c =
-    let k = c .before .before .before .try-latest .ensures in
-    let o = c .before .before .before .before .before .before .before .before in
+    let d = c .before .before in
+    let k = d .before .before .before .try-latest .ensures in
+    let o = d .before .before .before .before .before .before .before .before in
     let q = o .before .before .enum-told3 .given .1 in
     let r = o .before .before .before .before .loop .inv .0 in
-    (choice-same r q (o .still-open .ensures) (c .before .before .before .before .before .before .before .if4 .left) (c .before .before .before .before .before .before .if5 .left) (k .0) (k .1 .1) (c .if6 .taken), choice-counted r q (o .still-open .ensures) (c .before .before .before .before .before .before .before .if4 .left) (k .0) (c .if6 .taken) (k .1 .0 (c .if6 .taken)))
+    (choice-same r q (o .still-open .ensures) (d .before .before .before .before .before .before .before .if4 .left) (d .before .before .before .before .before .before .if5 .left) (k .0) (k .1) (d .if6 .taken), choice-counted r q (o .still-open .ensures) (d .before .before .before .before .before .before .before .if4 .left) (k .0) (d .if6 .taken) (c .latest-count .ensures))
 
 add-used-4 : tie.Need-add-used-4 Inv-loop μ-loop
 add-used-4 c = omega (arith, c .before .before .before .before .before .before .before .before .before .before .before .before .loop .inv .0 .goes .spent, c .before .before .before .before .before .before .if5 .left, c .before .before .before .before .before .before .before .before .before .before .before .before .before .before .before .before .before .before .fits .budget)
@@ -161,7 +174,7 @@ loop-again-4 c =
     let o = c .before .before .before .before .before .before .before .before in
     let q = o .before .before .enum-told3 .given .1 in
     let r = o .before .before .before .before .loop .inv .0 in
-    (choice-other r q (o .still-open .ensures) (c .before .before .before .before .before .before .before .if4 .left) (c .before .before .before .before .before .before .if5 .left) (k .0) (k .1 .1) (c .if6 .left), carried-past _ _ _ _ _ q)
+    (choice-other r q (o .still-open .ensures) (c .before .before .before .before .before .before .before .if4 .left) (c .before .before .before .before .before .before .if5 .left) (k .0) (k .1) (c .if6 .left), carried-past _ _ _ _ _ q)
 
 pub run-spec : {M : Type 1} → statement M
 run-spec =
@@ -200,6 +213,7 @@ run-spec =
     returns-5
     try-latest-requires
     add-used-3
+    latest-count-requires
     loop-less-3
     loop-again-3
     add-used-4
