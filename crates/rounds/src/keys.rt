@@ -5,7 +5,7 @@ ghost use Prim.Native.Nat.{ℕ, _≤_, _<_, _+_};
 ghost use lib.Dec.{eqb};
 ghost use lib.ListN.{getD};
 ghost use Rattle.lists.specs.Every.{howMany};
-ghost use Rattle.rounds.specs.Board.{countStart, cellsOn, startOf, segment, markOn, alikeOn, Listed, Segment, Empty, Counts, OnlyTable, Ready};
+ghost use Rattle.rounds.specs.Board.{countStart, sameNumbers, cellsOn, startOf, placesOn, segment, markOn, alikeOn, Listed, Segment, Empty, Counts, OnlyTable, Ready};
 use crate::numbers::colour_of;
 
 const NUMBERS: usize = 8192;
@@ -91,7 +91,43 @@ pub(crate) fn mark_of(board: &[u16], cells: usize, x: usize) -> u64
     sum
 }
 
-// Whether two elements have the same key (`refinement_keys` of model_hom.rs). The table is empty before and after.
+// Whether each number stands as often in two segments. The table is empty before and after.
+fn same_numbers(
+    board: &mut [u16],
+    from: usize,
+    end: usize,
+    other_from: usize,
+    other_end: usize,
+) -> bool
+    requires { ⌜ Segment from end (now board) × Segment «other_from» «other_end» (now board) × Empty countStart (now board) ⌝ }
+    ensures answer { λ r. ⌜ r ≡ sameNumbers (segment from end (now (board .entry))) (segment «other_from» «other_end» (now (board .entry))) ⌝ }
+    ensures kept { λ _. ⌜ now (board .exit) ≡ now (board .entry) ⌝ }
+{
+    if end - from != other_end - other_from {
+        return false;
+    }
+    count_up(board, from, end);
+    if count_down(board, other_from, other_end) {
+        return true;
+    }
+    clear_counts(board, from, end);
+    false
+}
+
+// Whether two elements have as many places of each number.
+fn same_places(board: &mut [u16], cells: usize, x: usize, y: usize) -> bool
+    requires { ⌜ Ready cells (now board) × (x < 128) × (y < 128) ⌝ }
+    ensures answer { λ r. ⌜ r ≡ sameNumbers (placesOn cells (now (board .entry)) x) (placesOn cells (now (board .entry)) y) ⌝ }
+    ensures kept { λ _. ⌜ now (board .exit) ≡ now (board .entry) ⌝ }
+{
+    let from = board[STARTS + x] as usize;
+    let end = end_of(board, cells, x);
+    let other_from = board[STARTS + y] as usize;
+    let other_end = end_of(board, cells, y);
+    same_numbers(board, from, end, other_from, other_end)
+}
+
+// Whether two elements have the same key (`refinement_keys` of model_hom.rs).
 pub(crate) fn same_key(board: &mut [u16], cells: usize, x: usize, y: usize) -> bool
     requires { ⌜ Ready cells (now board) × (x < 128) × (y < 128) ⌝ }
     ensures answer { λ r. ⌜ r ≡ alikeOn cells (now (board .entry)) x y ⌝ }
@@ -102,17 +138,5 @@ pub(crate) fn same_key(board: &mut [u16], cells: usize, x: usize, y: usize) -> b
     if own != other {
         return false;
     }
-    let from = board[STARTS + x] as usize;
-    let end = end_of(board, cells, x);
-    let other_from = board[STARTS + y] as usize;
-    let other_end = end_of(board, cells, y);
-    if end - from != other_end - other_from {
-        return false;
-    }
-    count_up(board, from, end);
-    if count_down(board, other_from, other_end) {
-        return true;
-    }
-    clear_counts(board, from, end);
-    false
+    same_places(board, cells, x, y)
 }

@@ -20,11 +20,10 @@ use Rattle.rounds.specs.Colours.{colourAt}
 use Rattle.rounds.specs.Board.{numberStart, countStart, linkStart, startStart, sameNumbers, cellsOn, coloursOn, startOf, placesOn, segment, alikeOn, markOn, markBucket, bucketOn, Segment, Empty, Counts, OnlyTable, Ready}
 use Rattle.rounds.proofs.Laws.Bags.{mark-zero, counts-mark, counts-length, even-counts, numbers-counts, counts-numbers}
 use Rattle.rounds.proofs.Laws.Tables.{segment-long, segment-entries}
-use Rattle.rounds.proofs.Laws.Segments.{segment-of, segment-is}
 
 -- a board whose table alone was changed
 module _ (w v : List ℕ) (o : OnlyTable countStart w v) where
-  pub only-segment : (from end : ℕ) → Segment from end w → Segment from end v
+  only-segment : (from end : ℕ) → Segment from end w → Segment from end v
   only-segment from end s = record {
     room = o .length-kept ∙ s .room;
     order = s .order;
@@ -32,7 +31,7 @@ module _ (w v : List ℕ) (o : OnlyTable countStart w v) where
     low = λ i h k. let e = o .below (numberStart + i) (omega (arith, k, s .few)) in omega (arith, e, s .low i h k);
   }
 
-  pub only-numbers : (from end : ℕ) → Segment from end w → segment from end v ≡ segment from end w
+  only-numbers : (from end : ℕ) → Segment from end w → segment from end v ≡ segment from end w
   only-numbers from end s =
       ext-getD 0 (segment from end v) (segment from end w) (long-v ∙ sym (segment-long from end w s)) (λ i h. by-place i (omega (arith, h, long-v)))
     where
@@ -44,7 +43,7 @@ module _ (w v : List ℕ) (o : OnlyTable countStart w v) where
           getD-part v (numberStart + from) (end - from) i 0 h ∙ o .below (numberStart + from + i) (omega (arith, h, s .few)) ∙ sym (getD-part w (numberStart + from) (end - from) i 0 h)
 
   -- with the table empty before and after nothing was changed
-  pub as-before : Empty countStart w → Empty countStart v → v ≡ w
+  as-before : Empty countStart w → Empty countStart v → v ≡ w
   as-before z y = ext-getD 0 v w (o .length-kept) (λ i _. by-cases (decLe countStart i) (λ l. by-cases (decLe linkStart i) (o .above i) (λ h. inside i l h)) (λ h. o .below i (omega (arith, h))))
     where
       inside : (i : ℕ) → countStart ≤ i → (linkStart ≤ i → ⊥) → getD v i 0 ≡ getD w i 0
@@ -52,11 +51,11 @@ module _ (w v : List ℕ) (o : OnlyTable countStart w v) where
           let e : countStart + (i - countStart) ≡ i = omega (arith, l) in
           rw e at (y (i - countStart) (omega (arith, h, l)) ∙ sym (z (i - countStart) (omega (arith, h, l))))
 
-pub only-both : (u v w : List ℕ) → OnlyTable countStart u v → OnlyTable countStart v w → OnlyTable countStart u w
+only-both : (u v w : List ℕ) → OnlyTable countStart u v → OnlyTable countStart v w → OnlyTable countStart u w
 only-both u v w h k = record { length-kept = k .length-kept ∙ h .length-kept; below = λ i l. k .below i l ∙ h .below i l; above = λ i l. k .above i l ∙ h .above i l }
 
 -- segments of different lengths don't have each number as often
-pub lengths-tell : (p q : List ℕ) → (length p ≡ length q → ⊥) → false ≡ sameNumbers p q
+lengths-tell : (p q : List ℕ) → (length p ≡ length q → ⊥) → false ≡ sameNumbers p q
 lengths-tell p q d = go (split (sameNumbers p q))
   where
     go : (sameNumbers p q ≡ true) ⊎ (sameNumbers p q ≡ false) → false ≡ sameNumbers p q
@@ -97,27 +96,27 @@ module _ (w : List ℕ) (from end from' end' : ℕ) (s : Segment from end w) (s'
       counts-even : (n : ℕ) → howMany (eqb n) others ≡ howMany (eqb n) mine
       counts-even = even-counts others mine fits (segment-long from end w s ∙ even ∙ sym (segment-long from' end' w s'))
 
-      pub enough-same : true ≡ sameNumbers mine others
+      enough-same : true ≡ sameNumbers mine others
       enough-same = sym (counts-numbers mine others (λ n. sym (counts-even n)))
 
-      pub enough-kept : w₂ ≡ w
+      enough-kept : w₂ ≡ w
       enough-kept = as-before w w₂ (only-both w w₁ w₂ o₁ o₂) empty (λ n h. omega (arith, left-over n h, counts-even n))
 
     -- too few of one
-    pub missing-differ : (n : ℕ) × (n < 4096) × (getD w₁ (countStart + n) 0 < howMany (eqb n) (segment from' end' w₁)) → false ≡ sameNumbers mine others
+    missing-differ : (n : ℕ) × (n < 4096) × (getD w₁ (countStart + n) 0 < howMany (eqb n) (segment from' end' w₁)) → false ≡ sameNumbers mine others
     missing-differ m = go (split (sameNumbers mine others))
       where
         go : (sameNumbers mine others ≡ true) ⊎ (sameNumbers mine others ≡ false) → false ≡ sameNumbers mine others
         go (inl e) = absurd (omega (arith, m .2, c₁ (m .0) (m .1), other-there (m .0), numbers-counts mine others e (m .0)))
         go (inr e) = sym e
 
-    pub lowered-segment : Segment from end w₂
+    lowered-segment : Segment from end w₂
     lowered-segment = only-segment w w₂ (only-both w w₁ w₂ o₁ o₂) from end s
 
-    pub lowered-counts : ((n : ℕ) → n < 4096 → getD w₂ (countStart + n) 0 ≤ getD w₁ (countStart + n) 0) → (n : ℕ) → n < 4096 → howMany (eqb n) (segment from end w₂) ≡ 0 → getD w₂ (countStart + n) 0 ≡ 0
+    lowered-counts : ((n : ℕ) → n < 4096 → getD w₂ (countStart + n) 0 ≤ getD w₁ (countStart + n) 0) → (n : ℕ) → n < 4096 → howMany (eqb n) (segment from end w₂) ≡ 0 → getD w₂ (countStart + n) 0 ≡ 0
     lowered-counts f n h z = omega (arith, f n h, c₁ n h, z, ap (howMany (eqb n)) (only-numbers w w₂ (only-both w w₁ w₂ o₁ o₂) from end s))
 
-    pub cleared-kept : (w₃ : List ℕ) → Empty countStart w₃ → OnlyTable countStart w₂ w₃ → w₃ ≡ w
+    cleared-kept : (w₃ : List ℕ) → Empty countStart w₃ → OnlyTable countStart w₂ w₃ → w₃ ≡ w
     cleared-kept w₃ z o₃ = as-before w w₃ (only-both w w₂ w₃ (only-both w w₁ w₂ o₁ o₂) o₃) empty z
 
 -- colours decide first
@@ -177,51 +176,33 @@ pub alike-trans : (cells : ℕ) (w : List ℕ) (x y z : ℕ) → alikeOn cells w
 alike-trans cells w x y z h k =
     make-alike cells w x z (alike-colour cells w x y h ∙ alike-colour cells w y z k) (λ n. alike-counts cells w x y h n ∙ alike-counts cells w y z k n)
 
--- two elements of one colour, each with its segment
-pub record Pair (cells : ℕ) (w : List ℕ) (x y from end from' end' : ℕ) : Type 0 where
-  pub mine : Segment from end w
-  pub other : Segment from' end' w
-  pub empty : Empty countStart w
-  pub told : sameNumbers (segment from end w) (segment from' end' w) ≡ alikeOn cells w x y
-
-pub pair-of :
-    (cells : ℕ) (w : List ℕ) (x y from end from' end' own colour : ℕ) → Ready cells w → x < 128 → y < 128 → own ≡ colourAt (coloursOn w) x → colour ≡ colourAt (coloursOn w) y → own ≡ colour
-    → from ≡ getD w (startStart + x) 0 → end ≡ startOf (cellsOn cells w) x + howMany (eqb x) (cellsOn cells w)
-    → from' ≡ getD w (startStart + y) 0 → end' ≡ startOf (cellsOn cells w) y + howMany (eqb y) (cellsOn cells w)
-    → Pair cells w x y from end from' end'
-pair-of cells w x y from end from' end' own colour r h k e f g s t s' t' = record {
-  mine = segment-of cells w r x from end h s t;
-  other = segment-of cells w r y from' end' k s' t';
-  empty = r .empty;
-  told = ap₂ sameNumbers (segment-is cells w r x from end h s t) (segment-is cells w r y from' end' k s' t') ∙ alike-counted cells w x y own colour e f g;
-}
-
-module _ (cells : ℕ) (w : List ℕ) (x y from end from' end' : ℕ) (p : Pair cells w x y from end from' end') where
-  pub pair-uneven : (end - from ≡ end' - from' → ⊥) → false ≡ alikeOn cells w x y
-  pair-uneven d =
-      lengths-tell (segment from end w) (segment from' end' w) (λ e. d (sym (segment-long from end w (p .mine)) ∙ e ∙ segment-long from' end' w (p .other))) ∙ p .told
+-- two segments on a board with an empty table
+module _ (w : List ℕ) (from end from' end' : ℕ) (p : Segment from end w × Segment from' end' w × Empty countStart w) where
+  pub pair-uneven : (end - from ≡ end' - from' → ⊥) → false ≡ sameNumbers (segment from end w) (segment from' end' w)
+  pair-uneven d = lengths-tell (segment from end w) (segment from' end' w) (λ e. d (sym (segment-long from end w (p .0)) ∙ e ∙ segment-long from' end' w (p .1)))
 
   module _ (even : end - from ≡ end' - from') (w₁ : List ℕ) (c₁ : Counts countStart (segment from end w) w₁ × OnlyTable countStart w w₁) where
     pub pair-other : Segment from' end' w₁
-    pair-other = only-segment w w₁ (c₁ .1) from' end' (p .other)
+    pair-other = only-segment w w₁ (c₁ .1) from' end' (p .1)
 
     module _ (w₂ : List ℕ) (o₂ : OnlyTable countStart w₁ w₂) where
       pub pair-enough :
-          ((n : ℕ) → n < 4096 → getD w₂ (countStart + n) 0 + howMany (eqb n) (segment from' end' w₁) ≡ getD w₁ (countStart + n) 0) → (true ≡ alikeOn cells w x y) × (w₂ ≡ w)
+          ((n : ℕ) → n < 4096 → getD w₂ (countStart + n) 0 + howMany (eqb n) (segment from' end' w₁) ≡ getD w₁ (countStart + n) 0)
+          → (true ≡ sameNumbers (segment from end w) (segment from' end' w)) × (w₂ ≡ w)
       pair-enough t = (
-        enough-same w from end from' end' (p .mine) (p .other) even (p .empty) w₁ (c₁ .0) (c₁ .1) w₂ o₂ t ∙ p .told,
-        enough-kept w from end from' end' (p .mine) (p .other) even (p .empty) w₁ (c₁ .0) (c₁ .1) w₂ o₂ t,
+        enough-same w from end from' end' (p .0) (p .1) even (p .2) w₁ (c₁ .0) (c₁ .1) w₂ o₂ t,
+        enough-kept w from end from' end' (p .0) (p .1) even (p .2) w₁ (c₁ .0) (c₁ .1) w₂ o₂ t,
       )
 
-      pub pair-missing : (n : ℕ) × (n < 4096) × (getD w₁ (countStart + n) 0 < howMany (eqb n) (segment from' end' w₁)) → false ≡ alikeOn cells w x y
-      pair-missing m = missing-differ w from end from' end' (p .mine) (p .other) even (p .empty) w₁ (c₁ .0) (c₁ .1) w₂ o₂ m ∙ p .told
+      pub pair-missing : (n : ℕ) × (n < 4096) × (getD w₁ (countStart + n) 0 < howMany (eqb n) (segment from' end' w₁)) → false ≡ sameNumbers (segment from end w) (segment from' end' w)
+      pair-missing m = missing-differ w from end from' end' (p .0) (p .1) even (p .2) w₁ (c₁ .0) (c₁ .1) w₂ o₂ m
 
       pub pair-mine : Segment from end w₂
-      pair-mine = lowered-segment w from end from' end' (p .mine) (p .other) even (p .empty) w₁ (c₁ .0) (c₁ .1) w₂ o₂
+      pair-mine = lowered-segment w from end from' end' (p .0) (p .1) even (p .2) w₁ (c₁ .0) (c₁ .1) w₂ o₂
 
       pub pair-counts :
           ((n : ℕ) → n < 4096 → getD w₂ (countStart + n) 0 ≤ getD w₁ (countStart + n) 0) → (n : ℕ) → n < 4096 → howMany (eqb n) (segment from end w₂) ≡ 0 → getD w₂ (countStart + n) 0 ≡ 0
-      pair-counts = lowered-counts w from end from' end' (p .mine) (p .other) even (p .empty) w₁ (c₁ .0) (c₁ .1) w₂ o₂
+      pair-counts = lowered-counts w from end from' end' (p .0) (p .1) even (p .2) w₁ (c₁ .0) (c₁ .1) w₂ o₂
 
       pub pair-cleared : (w₃ : List ℕ) → Empty countStart w₃ × OnlyTable countStart w₂ w₃ → w₃ ≡ w
-      pair-cleared w₃ z = cleared-kept w from end from' end' (p .mine) (p .other) even (p .empty) w₁ (c₁ .0) (c₁ .1) w₂ o₂ w₃ (z .0) (z .1)
+      pair-cleared w₃ z = cleared-kept w from end from' end' (p .0) (p .1) even (p .2) w₁ (c₁ .0) (c₁ .1) w₂ o₂ w₃ (z .0) (z .1)

@@ -79,7 +79,7 @@ add-colour-of : tie.Need-add-colour-of Inv-loop μ-loop
 add-colour-of c = omega (arith, c .before .loop .inv .first, c .loop-test .taken)
 
 mul-colour-of : tie.Need-mul-colour-of Inv-loop μ-loop
-mul-colour-of c = search needs
+mul-colour-of c = let i = c .before .loop .inv in omega (arith, i .first, i .room, c .loop-test .taken)
 
 shared-slice-read-colour-of : tie.Need-shared-slice-read-colour-of Inv-loop μ-loop
 shared-slice-read-colour-of c = omega (arith, c .before .before .loop .inv .first, c .before .loop-test .taken)
@@ -88,13 +88,13 @@ colour-of-requires : tie.Need-colour-of-requires Inv-loop μ-loop
 colour-of-requires c κs = (c .before .before .loop .inv .room, c .before .before .loop .inv .first-known _ (c .before .loop-test .taken))
 
 add-colour-of-2 : tie.Need-add-colour-of-2 Inv-loop μ-loop
-add-colour-of-2 c = search needs
+add-colour-of-2 c = let k = c .before .before in omega (arith, k .before .loop .inv .second, k .loop-test .taken)
 
 mul-colour-of-2 : tie.Need-mul-colour-of-2 Inv-loop μ-loop
-mul-colour-of-2 c = search needs
+mul-colour-of-2 c = let k = c .before .before in omega (arith, k .before .loop .inv .second, k .before .loop .inv .room, k .loop-test .taken)
 
 shared-slice-read-colour-of-2 : tie.Need-shared-slice-read-colour-of-2 Inv-loop μ-loop
-shared-slice-read-colour-of-2 c = search needs
+shared-slice-read-colour-of-2 c = let k = c .before .before .before in omega (arith, k .before .loop .inv .second, k .loop-test .taken)
 
 colour-of-requires-2 : tie.Need-colour-of-requires-2 Inv-loop μ-loop
 colour-of-requires-2 c κs = let k = c .before .before .before in (k .before .loop .inv .room, k .before .loop .inv .second-known _ (k .loop-test .taken))
