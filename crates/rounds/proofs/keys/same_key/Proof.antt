@@ -18,7 +18,7 @@ colour-of-requires-2 : tie.Need-colour-of-requires-2
 colour-of-requires-2 c κs = (c .before .before .before .before .pre .0 .listed .room, c .before .before .before .before .pre .2)
 
 same-length : tie.Need-same-length
-same-length c = search needs
+same-length c = refl
 
 returns : tie.Need-returns
 returns c = (alike-differ _ _ _ _ _ _ (c .before .before .before .colour-of .ensures) (c .before .colour-of2 .ensures) (c .if1 .taken), refl)
@@ -27,7 +27,7 @@ same-places-requires : tie.Need-same-places-requires
 same-places-requires c κs = c .before .before .before .before .before .before .before .pre
 
 same-length-2 : tie.Need-same-length-2
-same-length-2 c = search needs
+same-length-2 c = c .before .before .same-places .kept .0
 
 returns-2 : tie.Need-returns-2
 returns-2 c = let r = c .before .before .same-places .ensures in (r .0 ∙ alike-counted _ _ _ _ _ _ (c .before .before .before .before .before .before .before .colour-of .ensures) (c .before .before .before .before .before .colour-of2 .ensures) (c .before .before .before .before .if1 .left), r .1)
