@@ -3,14 +3,11 @@ use Prim.Native.Nat.{ℕ, zero, suc, _+_, _-_, _*_, _<_, _≤_}
 use mathlib.Core.Path.{_≡_, refl, sym, _∙_, ap, subst}
 use mathlib.Core.Bool.{Bool, true, false}
 use mathlib.Core.Logic.{by-cases}
-use mathlib.Core.List.{List, [], _∷_, _++_}
+use mathlib.Core.List.{List, [], _∷_}
 use native.Mathlib.Omega.{arith}
-use native.Mathlib.Nat.{mul-le-mul-right}
 use native.Mathlib.Decide.{decLe}
-use lib.ListN.{length, getD, take, drop, length-append, length-drop}
-use lib.Seq.{length-take-le, take-at, drop-at, drop-drop}
-use Rattle.lists.specs.Part.{part, over}
-use Rattle.lists.proofs.Laws.Part.{length-part}
+use lib.ListN.{length, getD, take, drop}
+use Rattle.lists.specs.Part.{over}
 use Rattle.lists.specs.Numbers.{upFrom}
 use Rattle.lists.proofs.Laws.Different.{keep-fits}
 use Rattle.lists.proofs.Laws.Numbers.{length-upFrom}

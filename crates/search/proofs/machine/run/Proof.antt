@@ -1,6 +1,6 @@
 -- `search::machine::run` meets its contract. The invariant: the rest of the machine's run from here is the run from the start (`Running`), and where a round is due the count is that of
--- the left's colours (`Carried`); the measure is the number of units left. In what follows i is the invariant at the head of the loop, o the place where it is known how many choices stay open, k
--- the place where the candidate was looked at. Assumes nothing.
+-- the left's colours (`Carried`); the measure is the number of units left. In what follows r is what is known at the head of the loop, q
+-- which phase it is, o the place where it is known how many choices stay open, k what is known once a candidate was looked at. Assumes nothing.
 use Prim.Native.Nat.{_-_}
 use mathlib.Core.Path.{refl, _∙_, ap}
 use native.Mathlib.Omega.{arith}
