@@ -89,6 +89,14 @@ fn bucket_of(code: usize, rows: usize) -> usize
     code % 4096
 }
 
+// The bucket of two colours, for so many rows.
+fn bucket_two(c: u16, d: u16, rows: usize) -> usize
+    ensures { λ r. ⌜ r ≡ bucketOf rows (codeOf (c ∷ d ∷ [])) ⌝ }
+{
+    let code = (c as usize % 4096 * 101 + d as usize) % 4096;
+    bucket_of(code, rows)
+}
+
 // The first cell of the first row with the colours of row `place`, whose first cell is p: that of a row in its bucket, or its own.
 fn first_line(
     board: &[u16],
@@ -209,8 +217,7 @@ fn number_twos(board: &mut [u16], cells: usize, base: usize, rows: usize)
     while i < rows {
         let c = colour_of(board, board[at]);
         let d = colour_of(board, board[at + 1]);
-        let code = (c as usize % 4096 * 101 + d as usize) % 4096;
-        let bucket = bucket_of(code, rows);
+        let bucket = bucket_two(c, d, rows);
         let first = first_two(board, base, rows, i, at, c, d, bucket);
         keep_line(board, at, first, bucket);
         write_numbers(board, cells, at, first, 2);

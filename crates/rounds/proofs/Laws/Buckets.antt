@@ -91,9 +91,6 @@ module _ (w : List ℕ) (p : ℕ) (fits : p + 2 ≤ length w) where
       two-both c d e f =
           sym (ap (sameRow (c ∷ d ∷ [])) (line-two ∙ ap₂ (λ (m : ℕ) (n : ℕ). m ∷ n ∷ []) e f) ∙ same-row-refl (c ∷ d ∷ []))
 
-      pub two-code : (x % 4096 * 101 + y) % 4096 ≡ codeOf (lineAt w p 2)
-      two-code = code-two x y ∙ ap (codeFrom 0) (sym line-two)
-
 -- buckets
 module _ (rows code : ℕ) where
   pub buckets-few : rows ≤ 64 → bucketsFor rows ≡ 64

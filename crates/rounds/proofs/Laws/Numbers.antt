@@ -15,9 +15,10 @@ use Rattle.lists.specs.Order.{sameRow}
 use Rattle.lists.specs.Part.{part, rowsOf}
 use Rattle.lists.proofs.Laws.Numbers.{length-upFrom, getD-upFrom}
 use Rattle.lists.proofs.Laws.Part.{length-part, getD-part, rowsOf-take}
-use Rattle.rounds.specs.Board.{boardRoom, numberStart, countStart, linkStart, startStart, colourStart, flat, lineOf, lineAt, linesOn, codeOf, bucketsFor, bucketOf, bucketAt, cellOf, Bucketed, keptLine, rowNumbers, rowNumbersAt, cellsOn, positionOf, Listed, NumbersAt, Scattered, Bucketing, Empty}
+use Rattle.rounds.specs.Colours.{colourAt}
+use Rattle.rounds.specs.Board.{boardRoom, numberStart, countStart, linkStart, startStart, colourStart, flat, lineOf, lineAt, linesOn, codeFrom, codeOf, bucketsFor, bucketOf, bucketAt, cellOf, Bucketed, keptLine, rowNumbers, rowNumbersAt, cellsOn, positionOf, Listed, NumbersAt, Scattered, Bucketing, Empty}
 use Rattle.rounds.proofs.Laws.Listed.{cells-around, listed-around, position-small}
-use Rattle.rounds.proofs.Laws.Buckets.{row-inside, lines-long, line-there, bucket-below, buckets-fit, firstOf, first-within, last-zero, last-unused, cell-none, Sought, kept-length, kept-below, kept-above, bucketed-more}
+use Rattle.rounds.proofs.Laws.Buckets.{line-two, row-inside, lines-long, line-there, bucket-below, buckets-fit, firstOf, first-within, last-zero, last-unused, cell-none, Sought, kept-length, kept-below, kept-above, bucketed-more}
 
 pub one-more : (i arity : ℕ) → (i + 1) * arity ≡ i * arity + arity
 one-more i arity = ap (λ (n : ℕ). n * arity) (add-one i) ∙ omega (arith, suc-mul i arity)
@@ -284,3 +285,38 @@ module _ (cells base arity rows : ℕ) (old w : List ℕ) (at i : ℕ) (n : Numb
               };
               numbers = numbers₂;
             }
+
+-- a row of two cells, of the colours c and d
+module _ (cells base rows : ℕ) (old w : List ℕ) (at i : ℕ) (n : NumberedTo cells base 2 rows old w at i) (h : i < rows) (c d b : ℕ)
+    (first-colour : c ≡ colourAt (drop colourStart w) (getD w at 0)) (second-colour : d ≡ colourAt (drop colourStart w) (getD w (at + 1) 0)) (is-b : b ≡ bucketOf rows (codeOf (c ∷ d ∷ []))) where
+  two-line : lineAt w at 2 ≡ c ∷ d ∷ []
+  two-line = line-two w at (line-room cells base 2 rows old w at i n h) c first-colour d second-colour
+
+  two-is : codeOf (c ∷ d ∷ []) ≡ codeOf (lineAt w at 2)
+  two-is = ap (codeFrom 0) (sym two-line)
+
+  abbrev sought : Sought w base 2 rows i at b
+  sought = row-sought cells base 2 rows old w at i n h (codeOf (c ∷ d ∷ [])) b two-is is-b
+
+  pub two-sought :
+      (length w ≡ boardRoom) × (base + rows * 2 ≤ 4096) × ((m : ℕ) → m < base + rows * 2 → getD w m 0 < 128) × (i < rows) × (at ≡ base + i * 2) × (lineAt w at 2 ≡ c ∷ d ∷ [])
+      × (b ≡ bucketAt rows (linesOn w base 2 rows) i) × Bucketed base 2 rows (linesOn w base 2 rows) w i
+  two-sought = (sought .room, sought .fits, sought .known, sought .within, sought .is-p, two-line, sought .is-b, sought .bucketed)
+
+  pub two-kept : (length w ≡ boardRoom) × (at < 4096) × (b < 4096)
+  two-kept = (
+    room-now cells base 2 rows old w at i n,
+    row-low cells base 2 rows old w at i n h (codeOf (c ∷ d ∷ [])) b two-is is-b,
+    row-bucket cells base 2 rows old w at i n h (codeOf (c ∷ d ∷ [])) b two-is is-b,
+  )
+
+  module _ (first : ℕ) (found : first ≡ base + firstOf (linesOn w base 2 rows) i * 2) (w₁ : List ℕ) (is₁ : w₁ ≡ keptLine at first b w) where
+    pub two-written : Listed cells w₁ × (at + 2 ≤ cells) × (first + 2 ≤ 4096)
+    two-written = (
+      listed₁ cells base 2 rows old w at i n h (codeOf (c ∷ d ∷ [])) b two-is is-b first found w₁ is₁,
+      row-room cells base 2 rows old w at i n h,
+      first-small cells base 2 rows old w at i n h (codeOf (c ∷ d ∷ [])) b two-is is-b first found,
+    )
+
+    pub two-more : (w₂ : List ℕ) → NumbersAt cells at (upFrom first 2) w₂ × Scattered cells at w₁ w₂ → NumberedTo cells base 2 rows old w₂ (at + 2) (i + 1)
+    two-more w₂ s = numbered-more cells base 2 rows old w at i n h (codeOf (c ∷ d ∷ [])) b two-is is-b first found w₁ is₁ w₂ (s .0) (s .1)

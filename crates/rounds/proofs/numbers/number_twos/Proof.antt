@@ -2,8 +2,8 @@
 use Prim.Native.Nat.{_-_}
 use native.Mathlib.Omega.{arith}
 use borrow.Author.Needs.{needs}
-use Rattle.rounds.proofs.Laws.Buckets.{known-first, line-two, two-code}
-use Rattle.rounds.proofs.Laws.Numbers.{NumberedTo, numbered-none, numbered-all, numbered-kept, row-room, room-now, line-low, line-room, line-known, row-sought, row-bucket, row-low, first-small, listed₁, numbered-more}
+use Rattle.rounds.proofs.Laws.Buckets.{known-first}
+use Rattle.rounds.proofs.Laws.Numbers.{NumberedTo, numbered-none, numbered-all, numbered-kept, room-now, line-low, line-room, line-known, two-sought, two-kept, two-written, two-more}
 use Rattle.rounds.proofs.numbers.number_twos.Statement.{statement}
 use Rattle.rounds.proofs.numbers.number_twos.Tie as tie
 
@@ -37,52 +37,17 @@ slice-reshared-read-colour-of-2 c = let k = c .before .before .before in omega (
 colour-of-requires-2 : tie.Need-colour-of-requires-2 Inv-loop μ-loop
 colour-of-requires-2 c κs = let k = c .before .before .before in (room-now _ _ _ _ _ _ _ _ (k .before .loop .inv), line-known _ _ _ _ _ _ _ _ (k .before .loop .inv) (k .loop-test .taken) 1 (omega arith))
 
-cast-code : tie.Need-cast-code Inv-loop μ-loop
-cast-code c = search needs
-
-mul-code : tie.Need-mul-code Inv-loop μ-loop
-mul-code c = omega arith
-
-cast-code-2 : tie.Need-cast-code-2 Inv-loop μ-loop
-cast-code-2 c = search needs
-
-add-code : tie.Need-add-code Inv-loop μ-loop
-add-code c = omega arith
-
-bucket-of-requires : tie.Need-bucket-of-requires Inv-loop μ-loop
-bucket-of-requires c κs = tt
+bucket-two-requires : tie.Need-bucket-two-requires Inv-loop μ-loop
+bucket-two-requires c κs = tt
 
 first-two-requires : tie.Need-first-two-requires Inv-loop μ-loop
-first-two-requires c κs =
-    let k = c .before .before .before .before .before .before in
-    let x = c .before .before .before .before .colour-of .ensures in
-    let y = c .before .before .colour-of2 .ensures in
-    let e = c .before .bucket-of .ensures in
-    let l = line-room _ _ _ _ _ _ _ _ (k .before .loop .inv) (k .loop-test .taken) in
-    let d = two-code _ _ l _ x _ y in
-    let s = row-sought _ _ _ _ _ _ _ _ (k .before .loop .inv) (k .loop-test .taken) _ _ d e in
-    (s .room, s .fits, s .known, s .within, s .is-p, line-two _ _ l _ x _ y, s .is-b, s .bucketed)
+first-two-requires c κs = two-sought _ _ _ _ _ _ _ (c .before .before .before .before .before .before .before .loop .inv) (c .before .before .before .before .before .before .loop-test .taken) _ _ _ (c .before .before .before .before .colour-of .ensures) (c .before .before .colour-of2 .ensures) (c .before .bucket-two .ensures)
 
 keep-line-requires : tie.Need-keep-line-requires Inv-loop μ-loop
-keep-line-requires c κs =
-    let k = c .before .before .before .before .before .before .before .before in
-    let x = c .before .before .before .before .before .before .colour-of .ensures in
-    let y = c .before .before .before .before .colour-of2 .ensures in
-    let e = c .before .before .before .bucket-of .ensures in
-    let l = line-room _ _ _ _ _ _ _ _ (k .before .loop .inv) (k .loop-test .taken) in
-    let d = two-code _ _ l _ x _ y in
-    (room-now _ _ _ _ _ _ _ _ (k .before .loop .inv), row-low _ _ _ _ _ _ _ _ (k .before .loop .inv) (k .loop-test .taken) _ _ d e, row-bucket _ _ _ _ _ _ _ _ (k .before .loop .inv) (k .loop-test .taken) _ _ d e)
+keep-line-requires c κs = two-kept _ _ _ _ _ _ _ (c .before .before .before .before .before .before .before .before .before .loop .inv) (c .before .before .before .before .before .before .before .before .loop-test .taken) _ _ _ (c .before .before .before .before .before .before .colour-of .ensures) (c .before .before .before .before .colour-of2 .ensures) (c .before .before .before .bucket-two .ensures)
 
 write-numbers-requires : tie.Need-write-numbers-requires Inv-loop μ-loop
-write-numbers-requires c κs =
-    let k = c .before .before .before .before .before .before .before .before .before .before .before .before in
-    let x = c .before .before .before .before .before .before .before .before .before .before .colour-of .ensures in
-    let y = c .before .before .before .before .before .before .before .before .colour-of2 .ensures in
-    let e = c .before .before .before .before .before .before .before .bucket-of .ensures in
-    let l = line-room _ _ _ _ _ _ _ _ (k .before .loop .inv) (k .loop-test .taken) in
-    let d = two-code _ _ l _ x _ y in
-    let f = c .before .before .before .before .before .first-two .ensures in
-    (listed₁ _ _ _ _ _ _ _ _ (k .before .loop .inv) (k .loop-test .taken) _ _ d e _ f _ (c .before .before .before .keep-line .ensures), row-room _ _ _ _ _ _ _ _ (k .before .loop .inv) (k .loop-test .taken), first-small _ _ _ _ _ _ _ _ (k .before .loop .inv) (k .loop-test .taken) _ _ d e _ f)
+write-numbers-requires c κs = two-written _ _ _ _ _ _ _ (c .before .before .before .before .before .before .before .before .before .before .before .before .before .loop .inv) (c .before .before .before .before .before .before .before .before .before .before .before .before .loop-test .taken) _ _ _ (c .before .before .before .before .before .before .before .before .before .before .colour-of .ensures) (c .before .before .before .before .before .before .before .before .colour-of2 .ensures) (c .before .before .before .before .before .before .before .bucket-two .ensures) _ (c .before .before .before .before .before .first-two .ensures) _ (c .before .before .before .keep-line .ensures)
 
 add-at : tie.Need-add-at Inv-loop μ-loop
 add-at c = let k = c .before .before .before .before .before .before .before .before .before .before .before .before .before .before .before in omega (arith, line-low _ _ _ _ _ _ _ _ (k .before .loop .inv) (k .loop-test .taken))
@@ -94,15 +59,7 @@ loop-less : tie.Need-loop-less Inv-loop μ-loop
 loop-less c = search needs
 
 loop-again : tie.Need-loop-again Inv-loop μ-loop
-loop-again c =
-    let k = c .before .before .before .before .before .before .before .before .before .before .before .before .before .before .before in
-    let x = c .before .before .before .before .before .before .before .before .before .before .before .before .before .colour-of .ensures in
-    let y = c .before .before .before .before .before .before .before .before .before .before .before .colour-of2 .ensures in
-    let e = c .before .before .before .before .before .before .before .before .before .before .bucket-of .ensures in
-    let l = line-room _ _ _ _ _ _ _ _ (k .before .loop .inv) (k .loop-test .taken) in
-    let d = two-code _ _ l _ x _ y in
-    let n = c .before .before .write-numbers .ensures in
-    numbered-more _ _ _ _ _ _ _ _ (k .before .loop .inv) (k .loop-test .taken) _ _ d e _ (c .before .before .before .before .before .before .before .before .first-two .ensures) _ (c .before .before .before .before .before .before .keep-line .ensures) _ (n .0) (n .1)
+loop-again c = two-more _ _ _ _ _ _ _ (c .before .before .before .before .before .before .before .before .before .before .before .before .before .before .before .before .loop .inv) (c .before .before .before .before .before .before .before .before .before .before .before .before .before .before .before .loop-test .taken) _ _ _ (c .before .before .before .before .before .before .before .before .before .before .before .before .before .colour-of .ensures) (c .before .before .before .before .before .before .before .before .before .before .before .colour-of2 .ensures) (c .before .before .before .before .before .before .before .before .before .before .bucket-two .ensures) _ (c .before .before .before .before .before .before .before .before .first-two .ensures) _ (c .before .before .before .before .before .before .keep-line .ensures) _ (c .before .before .write-numbers .ensures)
 
 same-length : tie.Need-same-length Inv-loop μ-loop
 same-length c = c .before .loop .inv .length-kept
@@ -124,11 +81,7 @@ number-twos-spec =
     mul-colour-of-2
     slice-reshared-read-colour-of-2
     colour-of-requires-2
-    cast-code
-    mul-code
-    cast-code-2
-    add-code
-    bucket-of-requires
+    bucket-two-requires
     first-two-requires
     keep-line-requires
     write-numbers-requires
