@@ -21,7 +21,7 @@ same-length : tie.Need-same-length
 same-length c = refl
 
 returns : tie.Need-returns
-returns c = (alike-differ _ _ _ _ _ _ (c .before .before .before .colour-of .ensures) (c .before .colour-of2 .ensures) (c .if1 .taken), refl)
+returns c = (alike-differ (c .before .before .before .before .before .before .args .cells) (c .before .before .before .before .before .before .args .board .now) (c .before .before .before .before .before .before .args .x) (c .before .before .before .before .before .before .args .y) (c .before .before .before .colour-of .result) (c .before .colour-of2 .result) (c .before .before .before .colour-of .ensures) (c .before .colour-of2 .ensures) (c .if1 .taken), refl)
 
 same-places-requires : tie.Need-same-places-requires
 same-places-requires c κs = c .before .before .before .before .before .before .before .pre
@@ -30,7 +30,10 @@ same-length-2 : tie.Need-same-length-2
 same-length-2 c = c .before .before .same-places .kept .0
 
 returns-2 : tie.Need-returns-2
-returns-2 c = let r = c .before .before .same-places .ensures in (r .0 ∙ alike-counted _ _ _ _ _ _ (c .before .before .before .before .before .before .before .colour-of .ensures) (c .before .before .before .before .before .colour-of2 .ensures) (c .before .before .before .before .if1 .left), r .1)
+returns-2 c =
+    let a = c .before .before .before .before .before .before .before .before .before .before .args in
+    let r = c .before .before .same-places .ensures in
+    (r .0 ∙ alike-counted (a .cells) (a .board .now) (a .x) (a .y) (c .before .before .before .before .before .before .before .colour-of .result) (c .before .before .before .before .before .colour-of2 .result) (c .before .before .before .before .before .before .before .colour-of .ensures) (c .before .before .before .before .before .colour-of2 .ensures) (c .before .before .before .before .if1 .left), r .1)
 
 pub same-key-spec : {M : Type 1} → statement M
 same-key-spec =

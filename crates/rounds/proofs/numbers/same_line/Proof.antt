@@ -102,7 +102,8 @@ colour-of-requires-2 c κs = let k = c .before .before .before in (k .before .lo
 returns : tie.Need-returns Inv-loop μ-loop
 returns c =
     let k = c .before .before .before .before .before in
-    stop _ _ _ _ _ (k .before .loop .inv) (k .loop-test .taken) _ _ (c .before .before .before .colour-of .ensures) (c .before .colour-of2 .ensures) (c .if1 .taken)
+    let a = k .before .before .before .args in
+    stop (a .board .now) (a .p) (a .q) (a .arity) (k .before .loop .j) (k .before .loop .inv) (k .loop-test .taken) (c .before .before .before .colour-of .result) (c .before .colour-of2 .result) (c .before .before .before .colour-of .ensures) (c .before .colour-of2 .ensures) (c .if1 .taken)
 
 add-j : tie.Need-add-j Inv-loop μ-loop
 add-j c = search needs
@@ -113,7 +114,8 @@ loop-less c = search needs
 loop-again : tie.Need-loop-again Inv-loop μ-loop
 loop-again c =
     let k = c .before .before .before .before .before in
-    more _ _ _ _ _ (k .before .loop .inv) (k .loop-test .taken) _ _ (c .before .before .before .colour-of .ensures) (c .before .colour-of2 .ensures) (c .if1 .left)
+    let a = k .before .before .before .args in
+    more (a .board .now) (a .p) (a .q) (a .arity) (k .before .loop .j) (k .before .loop .inv) (k .loop-test .taken) (c .before .before .before .colour-of .result) (c .before .colour-of2 .result) (c .before .before .before .colour-of .ensures) (c .before .colour-of2 .ensures) (c .if1 .left)
 
 returns-2 : tie.Need-returns-2 Inv-loop μ-loop
 returns-2 c = done _ _ _ _ _ (c .before .loop .inv) (c .loop-test .left)
