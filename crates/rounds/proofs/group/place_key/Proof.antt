@@ -1,7 +1,6 @@
 -- `rounds::group::place_key` meets its contract: the key is looked for in its bucket, and a new one gets a holder. Assumes nothing.
 use mathlib.Core.Path.{_∙_, ap, ap₂}
 use native.Mathlib.Omega.{arith}
-use borrow.Author.Needs.{needs}
 use lib.ListN.{length}
 use Rattle.rounds.specs.Board.{markBucket}
 use Rattle.rounds.proofs.Laws.Segments.{mark-few}
@@ -28,16 +27,16 @@ same-length : tie.Need-same-length
 same-length c = ap length (c .before .before .before .before .before .before .before .before .before .before .before .before .before .before .before .find-key .ensures .1)
 
 same-length-2 : tie.Need-same-length-2
-same-length-2 c = search needs
+same-length-2 c = c .before .before .before .before .before .before .before .before .hold .kept .0
 
 same-length-3 : tie.Need-same-length-3
-same-length-3 c = search needs
+same-length-3 c = c .before .before .before .before .before .before .before .before .hold .kept .1 .0
 
 same-length-4 : tie.Need-same-length-4
-same-length-4 c = search needs
+same-length-4 c = c .before .before .before .before .before .before .before .before .hold .kept .1 .1 .0
 
 same-length-5 : tie.Need-same-length-5
-same-length-5 c = search needs
+same-length-5 c = c .before .before .before .before .before .before .before .before .hold .kept .1 .1 .1 .0
 
 returns : tie.Need-returns
 returns c =

@@ -42,7 +42,7 @@ same-numbers-requires : tie.Need-same-numbers-requires
 same-numbers-requires c κs = let p = c .before .before .before .before .before .before .before .before .pre in (segment-of _ _ (p .0) _ _ _ (p .1) refl (c .before .before .before .before .end-of .ensures), segment-of _ _ (p .0) _ _ _ (p .2) refl (c .before .end-of2 .ensures), p .0 .empty)
 
 same-length : tie.Need-same-length
-same-length c = search needs
+same-length c = c .before .before .same-numbers .kept .0
 
 returns : tie.Need-returns
 returns c =

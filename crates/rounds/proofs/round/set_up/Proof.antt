@@ -1,7 +1,6 @@
 -- `rounds::round::set_up` meets its contract: the table of counts is emptied, the cells are laid over the front of the board, then listed. Assumes nothing.
 use mathlib.Core.Path.{_∙_}
 use native.Mathlib.Omega.{arith}
-use borrow.Author.Needs.{needs}
 use Rattle.stored.proofs.Laws.Reading.{reads-formed}
 use Rattle.rounds.proofs.Laws.Prepare.{elements-laid, board-laid}
 use Rattle.rounds.proofs.round.set_up.Statement.{statement}
@@ -22,7 +21,7 @@ list-cells-requires c κs =
     elements-laid _ _ (reads-formed _ _ (p .0)) (reads-formed _ _ (p .1)) _ _ _ (e .0) (c .before .before .before .before .before .before .before .clear-heads .ensures .length-kept ∙ p .3) (e .1)
 
 same-length : tie.Need-same-length
-same-length c = search needs
+same-length c = c .before .before .list-cells .kept .0 ∙ c .before .before .before .before .before .before .lay .kept .1 .1 .1 .1 .0 ∙ c .before .before .before .before .before .before .before .before .before .before .clear-heads .kept .0
 
 returns : tie.Need-returns
 returns c =
