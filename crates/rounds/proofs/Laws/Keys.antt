@@ -17,7 +17,7 @@ use Rattle.lists.proofs.Laws.Every.{mem-place}
 use Rattle.lists.proofs.Laws.Part.{getD-part}
 use Rattle.lists.proofs.Laws.Counting.{howMany-some}
 use Rattle.rounds.specs.Colours.{colourAt}
-use Rattle.rounds.specs.Board.{numberStart, countStart, linkStart, startStart, sameNumbers, cellsOn, coloursOn, startOf, placesOn, segment, alikeOn, markOn, markBucket, bucketOn, Segment, Empty, Counts, OnlyTable, Ready}
+use Rattle.rounds.specs.Board.{numberStart, countStart, linkStart, sameNumbers, coloursOn, placesOn, segment, alikeOn, markOn, markBucket, bucketOn, Segment, Empty, Counts, OnlyTable}
 use Rattle.rounds.proofs.Laws.Bags.{mark-zero, counts-mark, counts-length, even-counts, numbers-counts, counts-numbers}
 use Rattle.rounds.proofs.Laws.Tables.{segment-long, segment-entries}
 

@@ -1,8 +1,7 @@
 -- `rounds::round::recolour` meets its contract: a prepared board, and both sides grouped on it. Assumes nothing.
-use mathlib.Core.Path.{sym, _∙_, ap}
+use mathlib.Core.Path.{_∙_}
 use native.Mathlib.Omega.{arith}
 use borrow.Author.Needs.{needs}
-use lib.ListN.{length}
 use Rattle.stored.proofs.Laws.Reading.{roots-inside}
 use Rattle.rounds.proofs.Laws.Recoloured.{sides-ready, recoloured-both, board-kept}
 use Rattle.rounds.proofs.round.recolour.Statement.{statement}
