@@ -4,7 +4,7 @@ use mathlib.Core.Path.{_≡_}
 use mathlib.Core.List.{List, _++_}
 use lib.ListN.{length, take}
 use Rattle.stored.specs.Model.{size}
-use Rattle.stored.specs.Reading.{modelOf, Holds}
+use Rattle.stored.specs.Parse.{model, fault, parse}
 use Rattle.search.specs.declared.answer.Answer.{Answer}
 use Rattle.search.specs.declared.answer.Answer.the-variants as answer
 
@@ -21,9 +21,13 @@ numbersRoom = 62
 abbrev pub lineRoom : ℕ
 lineRoom = 1408
 
+-- how many elements the model in a file has; 0 where the file holds none
+unfoldable pub elementsIn : List ℕ → ℕ
+elementsIn s = elim (parse s) [ model m ↦ size m | fault f ↦ 0 ]
+
 -- how many entries the map of an answer has, by the file of the left model
-abbrev pub Entries : Answer → List ℕ → ℕ → Type 0
-Entries (answer.Found u) left n = Holds left → n ≡ size (modelOf left)
-Entries (answer.None u) left n = n ≡ 0
-Entries (answer.Exhausted u) left n = n ≡ 0
-Entries (answer.Refused r) left n = n ≡ 0
+unfoldable pub entriesOf : Answer → List ℕ → ℕ
+entriesOf (answer.Found u) left = elementsIn left
+entriesOf (answer.None u) left = 0
+entriesOf (answer.Exhausted u) left = 0
+entriesOf (answer.Refused r) left = 0

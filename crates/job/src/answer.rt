@@ -4,13 +4,11 @@ ghost use mathlib.Core.Path.{_≡_};
 ghost use mathlib.Core.List.{[], _∷_};
 ghost use lib.ListN.{length, take};
 ghost use Rattle.stored.specs.Refusal.{numbers as refusalNumbers};
-ghost use Rattle.stored.specs.Reading.{modelOf, Holds};
-ghost use Rattle.stored.specs.Model.{size};
 ghost use Rattle.search.specs.Answer.{numbers, workRoom};
 ghost use Rattle.search.specs.Find.{findFiles};
 ghost use Rattle.io.specs.Counts.{Counts};
 ghost use Rattle.job.specs.Line.{listed, lineWith, foundLine, lineOf, mapRoom};
-ghost use Rattle.job.specs.Writing.{Entries, lineRoom, Added, numbersRoom};
+ghost use Rattle.job.specs.Writing.{elementsIn, entriesOf, lineRoom, Added, numbersRoom};
 use crate::job::Reading;
 use crate::job::read_job;
 use crate::line::put;
@@ -101,7 +99,7 @@ fn put_answer(line: &mut [u8], answer: Answer) -> usize
 
 // How many elements the model in a file has; 0 where the file holds none.
 fn elements(file: &[u8]) -> usize
-    ensures is { λ r. ⌜ (Holds (now (file .entry)) → r ≡ size (modelOf (now (file .entry)))) ⌝ }
+    ensures is { λ r. ⌜ r ≡ elementsIn (now (file .entry)) ⌝ }
     ensures few { λ r. ⌜ r ≤ mapRoom ⌝ }
 {
     let reading = read(file);
@@ -115,7 +113,7 @@ fn elements(file: &[u8]) -> usize
 
 // How many entries the map of an answer has.
 fn map_length(answer: Answer, left: &[u8]) -> usize
-    ensures is { λ r. ⌜ Entries answer (now (left .entry)) r ⌝ }
+    ensures is { λ r. ⌜ r ≡ entriesOf answer (now (left .entry)) ⌝ }
     ensures few { λ r. ⌜ r ≤ mapRoom ⌝ }
 {
     match answer {

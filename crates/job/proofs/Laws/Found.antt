@@ -12,9 +12,9 @@ use Rattle.stored.specs.declared.read.Answer.the-variants as parsed
 use Rattle.stored.specs.declared.refusal.Refusal.{Refusal}
 use Rattle.stored.specs.Refusal as refusal
 use Rattle.stored.specs.Model.{Model, size}
-use Rattle.stored.specs.Parse.{model, parse}
-use Rattle.stored.specs.Reading.{readingOf, modelOf, Holds}
-use Rattle.stored.proofs.Laws.Reading.{model-reads, reading-reads, reading-faults, reads-formed, size-is}
+use Rattle.stored.specs.Parse.{model, fault, parse}
+use Rattle.stored.specs.Reading.{readingOf, modelOf}
+use Rattle.stored.proofs.Laws.Reading.{reading-reads, reading-faults, reads-formed, size-is}
 use Rattle.search.specs.declared.answer.Answer.{Answer}
 use Rattle.search.specs.declared.answer.Answer.the-variants as answer
 use Rattle.search.specs.Machine.{found, none, exhausted}
@@ -28,7 +28,7 @@ use Rattle.job.specs.declared.reader.Value.{Value}
 use Rattle.job.specs.declared.job.Reading.the-variants.{Job, Broken}
 use Rattle.job.specs.Job.{jobOf}
 use Rattle.job.specs.Line.{lineWith, mapFound, mapRoom, foundLine, answerTo, lineOf}
-use Rattle.job.specs.Writing.{Entries}
+use Rattle.job.specs.Writing.{elementsIn, entriesOf}
 
 -- the map of an outcome
 map-of-found : (u : ℕ) (f : List ℕ) → mapFound (ended (found u f)) ≡ f
@@ -50,30 +50,52 @@ map-of-refusal (ended (none u)) r e = refl
 map-of-refusal (ended (exhausted u)) r e = refl
 map-of-refusal (refused q) r e = refl
 
--- a file that holds a model holds one
-holds-one : (s : List ℕ) (m : Model) → parse s ≡ model m → Holds s × (modelOf s ≡ m)
-holds-one s m e = let h = model-reads s m e .accepted in let q : modelOf s ≡ m = cc in (h, q)
+-- the elements of a file that holds a model, and of one that holds none
+elements-held : (s : List ℕ) (m : Model) → parse s ≡ model m → elementsIn s ≡ size m
+unfolding elementsIn
+elements-held s m e = rw (e, elementsIn)
+
+elements-faulty : (s : List ℕ) (f : Fault) → parse s ≡ fault f → elementsIn s ≡ 0
+unfolding elementsIn
+elements-faulty s f e = rw (e, elementsIn)
+
+-- the entries of an answer's map
+module _ (left : List ℕ) where
+  pub entries-found : (u : ℕ) → entriesOf (answer.Found u) left ≡ elementsIn left
+  unfolding entriesOf
+  entries-found u = refl
+
+  pub entries-none : (u : ℕ) → entriesOf (answer.None u) left ≡ 0
+  unfolding entriesOf
+  entries-none u = refl
+
+  pub entries-exhausted : (u : ℕ) → entriesOf (answer.Exhausted u) left ≡ 0
+  unfolding entriesOf
+  entries-exhausted u = refl
+
+  pub entries-refused : (r : Refusal) → entriesOf (answer.Refused r) left ≡ 0
+  unfolding entriesOf
+  entries-refused r = refl
 
 module _ (left right pairs : List ℕ) (budget room work : ℕ) (out after : List ℕ) (w : after ≡ written (findFiles left right pairs budget room work) out) (n : ℕ) where
   abbrev o : Outcome
   o = findFiles left right pairs budget room work
 
-  pub map-is : (a : Answer) → numbers a ≡ numbers (answerOf o) → Entries a left n → take n after ≡ mapFound o
+  pub map-is : (a : Answer) → numbers a ≡ numbers (answerOf o) → n ≡ entriesOf a left → take n after ≡ mapFound o
   map-is (answer.Found u) e h =
       let g = found-by o u (sym e) in
       let c = files-found left right pairs budget room work u (g .0) (g .1) in
-      let k = holds-one left (c .call .left .its-model) (c .call .left .parsed) in
-      let l : n ≡ length (g .0) = h (k .0) ∙ ap size (k .1) ∙ sym (c .sound .its-length) in
+      let l : n ≡ length (g .0) = h ∙ entries-found left u ∙ elements-held left (c .call .left .its-model) (c .call .left .parsed) ∙ sym (c .sound .its-length) in
       ap (take n) (w ∙ ap (λ (x : Outcome). written x out) (g .1) ∙ written-found u (g .0) out)
       ∙ ap (λ (m : ℕ). take m (over (g .0) out)) l
       ∙ over-front (g .0) out
       ∙ sym (ap mapFound (g .1) ∙ map-of-found u (g .0))
-  map-is (answer.None u) e h = ap (λ (m : ℕ). take m after) h ∙ sym (ap mapFound (none-by o u (sym e)) ∙ map-of-none u)
+  map-is (answer.None u) e h = ap (λ (m : ℕ). take m after) (h ∙ entries-none left u) ∙ sym (ap mapFound (none-by o u (sym e)) ∙ map-of-none u)
   map-is (answer.Exhausted u) e h =
-      let g = exhausted-by o (u ∷ []) (sym e) in ap (λ (m : ℕ). take m after) h ∙ sym (ap mapFound (g .1) ∙ map-of-exhausted (g .0))
-  map-is (answer.Refused r) e h = ap (λ (m : ℕ). take m after) h ∙ sym (map-of-refusal o r e)
+      let g = exhausted-by o (u ∷ []) (sym e) in ap (λ (m : ℕ). take m after) (h ∙ entries-exhausted left u) ∙ sym (ap mapFound (g .1) ∙ map-of-exhausted (g .0))
+  map-is (answer.Refused r) e h = ap (λ (m : ℕ). take m after) (h ∙ entries-refused left r) ∙ sym (map-of-refusal o r e)
 
-  pub line-of-find : (a : Answer) → mapRoom ≡ room → workRoom ≡ work → numbers a ≡ numbers (answerOf o) → Entries a left n → lineWith (numbers a) (take n after) ≡ foundLine (findFiles left right pairs budget mapRoom workRoom)
+  pub line-of-find : (a : Answer) → mapRoom ≡ room → workRoom ≡ work → numbers a ≡ numbers (answerOf o) → n ≡ entriesOf a left → lineWith (numbers a) (take n after) ≡ foundLine (findFiles left right pairs budget mapRoom workRoom)
   unfolding foundLine
   line-of-find a p q e h =
       ap (λ (ns : List ℕ). lineWith ns (take n after)) e
@@ -87,13 +109,13 @@ first-entries n map out a b h = counts n out (omega arith)
 
 -- how many elements the model in a file has, by what reading it answers
 module _ (s : List ℕ) (r : Reading) (e : r ≡ readingOf (parse s)) where
-  pub elements-read : r .answer ≡ parsed.Model → (Holds s → r .layout .size ≡ size (modelOf s)) × (r .layout .size ≤ mapRoom)
+  pub elements-read : r .answer ≡ parsed.Model → (r .layout .size ≡ elementsIn s) × (r .layout .size ≤ mapRoom)
   elements-read h =
       let k = reading-reads s r e h in
-      (λ _. size-is s (r .layout) k, omega (arith, size-is s (r .layout) k, reads-formed s (r .layout) k .few-elements))
+      (size-is s (r .layout) k ∙ sym (elements-held s (modelOf s) (k .accepted)), omega (arith, size-is s (r .layout) k, reads-formed s (r .layout) k .few-elements))
 
-  pub elements-none : (f : Fault) → r .answer ≡ parsed.Fault f → (Holds s → 0 ≡ size (modelOf s)) × (0 ≤ mapRoom)
-  elements-none f h = (λ k. let q = reading-faults s r f e h in let z : _≡_ {A = ℕ} 0 1 = cc in absurd (omega arith), omega arith)
+  pub elements-none : (f : Fault) → r .answer ≡ parsed.Fault f → (0 ≡ elementsIn s) × (0 ≤ mapRoom)
+  elements-none f h = (sym (elements-faulty s f (reading-faults s r f e h)), omega arith)
 
 -- the line of a job
 module _ (s : List ℕ) where
