@@ -1,7 +1,7 @@
 -- "New colours 0, 1, .. are given to keys by first appearance, left representatives ascending, then right."
 use Prim.Native.Nat.{ℕ}
 use mathlib.Core.Bool.{Bool, true, false}
-use mathlib.Core.List.{List, [], _∷_, _++_, map}
+use mathlib.Core.List.{List, _++_, map}
 use lib.ListN.{length}
 use lib.Dec.{eqb}
 use Rattle.lists.specs.Every.{all, keep, howMany}

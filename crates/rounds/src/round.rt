@@ -7,7 +7,6 @@ ghost use lib.ListN.{length, getD, take};
 ghost use Rattle.stored.specs.Model.{size};
 ghost use Rattle.stored.specs.Signature.{signature, sameSignature};
 ghost use Rattle.stored.specs.Reading.{Reads, modelOf};
-ghost use Rattle.rounds.specs.Round.{Sides};
 ghost use Rattle.rounds.specs.Round as rounds;
 ghost use Rattle.rounds.specs.Board.{boardRoom, overAt, Board, Prepared};
 use crate::board::lay;

@@ -13,7 +13,7 @@ ghost use Rattle.stored.specs.Limits.{maxElements};
 ghost use Rattle.stored.specs.Signature.{signature, sameSignature};
 ghost use Rattle.stored.specs.Reading.{Reads, modelOf};
 ghost use Rattle.rows.specs.Answer.{numbers, answerOf, written};
-ghost use Rattle.rows.specs.Maps.{alone, oneToOne, reached, onto, sameCounts, invertible, inverseEntry};
+ghost use Rattle.rows.specs.Maps.{oneToOne, reached, sameCounts, invertible, inverseEntry};
 ghost use Rattle.rows.specs.Inverse.{inverseModels, inverseFiles};
 use crate::answer::Answer;
 use crate::files::Verdict;

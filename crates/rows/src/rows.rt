@@ -4,7 +4,6 @@ ghost use mathlib.Core.Bool.{true};
 ghost use mathlib.Core.List.{map};
 ghost use Prim.Native.Nat.{_≤_, _*_};
 ghost use lib.ListN.{length, getD};
-ghost use Rattle.lists.specs.Every.{all};
 ghost use Rattle.lists.specs.First.{firsts};
 ghost use Rattle.lists.specs.Order.{sameRow};
 ghost use Rattle.lists.specs.Part.{rowsOf, over};

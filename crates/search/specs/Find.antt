@@ -17,9 +17,9 @@ use Rattle.rows.specs.Pairs.{pairCount}
 use Rattle.rows.specs.Maps.{isMap}
 use Rattle.rows.specs.Files.{withModel}
 use Rattle.rounds.specs.Colours.{leftColours, rightColours}
-use Rattle.rounds.specs.Round.{reps, Sides}
+use Rattle.rounds.specs.Round.{reps}
 use Rattle.search.specs.Partners.{pairsFrom, Partners, partners, clash, partnersOf}
-use Rattle.search.specs.Machine.{State, refine, Ended, found, none, exhausted, run}
+use Rattle.search.specs.Machine.{State, refine, Ended, none, run}
 use Rattle.search.specs.Answer.{Outcome, ended, refused, workRoom}
 
 -- a round takes one unit

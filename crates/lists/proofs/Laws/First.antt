@@ -1,9 +1,9 @@
 -- The laws of `lowest` and `firstAt`: from a number or a place on, and what is known of the answer. Assumes nothing.
 use Prim.Native.Nat.{ℕ, zero, suc, _+_, _-_, _<_, _≤_, zero-le}
-use mathlib.Core.Path.{_≡_, refl, sym, _∙_, ap}
+use mathlib.Core.Path.{_≡_, refl, sym, _∙_}
 use mathlib.Core.Logic.{_⊎_, inl, inr, by-cases}
 use mathlib.Core.Bool.{Bool, true, false}
-use mathlib.Core.List.{List, [], _∷_, List·Memᴰ, List·Memᴰ·cases-cons, List·Memᴰ·not-nil}
+use mathlib.Core.List.{List, [], _∷_}
 use native.Mathlib.Omega.{arith}
 use native.Mathlib.Numerals.{add-one}
 use native.Mathlib.Decide.{ℕ-discrete, decLe}
@@ -170,27 +170,3 @@ lowest-agree p q i (suc n) h = by-test (split (p i)) (lowest-agree p q (suc i) n
     by-test : (p i ≡ true) ⊎ (p i ≡ false) → lowest p (suc i) n ≡ lowest q (suc i) n → lowest p i (suc n) ≡ lowest q i (suc n)
     by-test (inl e) ih = rw (e, lowest, sym same ∙ e) refl
     by-test (inr e) ih = rw (e, lowest, sym same ∙ e) ih
-
--- where a member passes, the first that does is the lowest place up to it that does
-pub first-lowest : {A : Type 0} (p : A → Bool) (xs : List A) (d : A) (i : ℕ) → i < length xs → p (getD xs i d) ≡ true → lowest (λ (j : ℕ). p (getD xs j d)) 0 i ≡ firstAt p xs
-first-lowest {A} p xs d i h e = omega (arith, at-most, at-least, below-i)
-  where
-    q : ℕ → Bool
-    q j = p (getD xs j d)
-
-    l : ℕ
-    l = lowest (λ (j : ℕ). p (getD xs j d)) 0 i
-
-    within : (0 ≤ l) × (l ≤ 0 + i)
-    within = lowest-within (λ (j : ℕ). p (getD xs j d)) 0 i
-
-    below-i : firstAt p xs ≤ i
-    below-i = firstAt-some p d xs i h e
-
-    at-least : firstAt p xs ≤ lowest (λ (j : ℕ). p (getD xs j d)) 0 i
-    at-least = by-cases (decLe (firstAt p xs) (lowest (λ (j : ℕ). p (getD xs j d)) 0 i)) (λ k. k) (λ k. clash (lowest-passes (λ (j : ℕ). p (getD xs j d)) 0 i (omega (arith, k, below-i))) (firstAt-below p d xs l (omega (arith, k))))
-
-    at-most : lowest (λ (j : ℕ). p (getD xs j d)) 0 i ≤ firstAt p xs
-    at-most =
-        by-cases (decLe (lowest (λ (j : ℕ). p (getD xs j d)) 0 i) (firstAt p xs)) (λ k. k)
-        (λ k. clash (firstAt-passes p d xs (omega (arith, below-i, h))) (lowest-below (λ (j : ℕ). p (getD xs j d)) 0 i (firstAt p xs) (omega arith) (omega (arith, k))))

@@ -5,7 +5,7 @@ use mathlib.Core.List.{List, [], _∷_, _++_, append-assoc, append-nil}
 use native.Mathlib.Omega.{arith}
 use native.Mathlib.Numerals.{add-one}
 use lib.ListN.{length, getD, take, drop, set, length-append, length-drop, drop-of-length-le, List·getD-append}
-use lib.Seq.{drop-cons, set-append-seam, take-append-seam, length-take-le, take-all, take-at, take-suc, drop-drop}
+use lib.Seq.{drop-cons, set-append-seam, take-append-seam, length-take-le, take-all, take-at, take-suc}
 use Rattle.lists.specs.Part.{over}
 
 module _ {A : Type 0} where
@@ -93,10 +93,3 @@ module _ {A : Type 0} (n : ℕ) (array new : List A) (room : n ≤ length array)
 pub over-split : {A : Type 0} (xs old : List A) → over xs old ≡ xs ++ drop (length xs) old
 unfolding over
 over-split xs old = refl
-
--- two lists written one behind the other
-pub over-append : {A : Type 0} (xs ys old : List A) → over (xs ++ ys) old ≡ xs ++ over ys (drop (length xs) old)
-unfolding over
-over-append {A = A} xs ys old =
-    append-assoc xs ys (drop (length (xs ++ ys)) old)
-    ∙ ap (λ (t : List A). xs ++ (ys ++ t)) (ap (λ (n : ℕ). drop n old) (length-append xs ys) ∙ sym (drop-drop (length ys) (length xs) old))

@@ -1,16 +1,16 @@
 -- The board: colours and lines read from it, and what a write leaves of it. Assumes nothing.
 use Prim.Native.Nat.{ℕ, zero, suc, _+_, _-_, _<_, _≤_}
 use mathlib.Core.Path.{_≡_, refl, sym, _∙_, ap, subst}
-use mathlib.Core.List.{List, [], _∷_, _++_, append-assoc}
+use mathlib.Core.List.{List, [], _∷_, _++_}
 use native.Mathlib.Nat.{zero-add, suc-add}
 use native.Mathlib.Omega.{arith}
 use lib.ListN.{length, getD, set, take, drop, length-drop, length-append, take-append-drop}
-use lib.Seq.{getD-drop, length-take-le, drop-at, take-append-le, take-take, drop-drop, getD-append-add}
+use lib.Seq.{getD-drop, length-take-le, take-append-le, take-take, getD-append-add}
 use Rattle.lists.specs.Part.{part, over}
 use Rattle.lists.proofs.Laws.Every.{getD-inside}
 use Rattle.lists.proofs.Laws.Part.{length-part, getD-part, part-rest}
 use Rattle.lists.proofs.Laws.Chunk.{rest-back, written-chunk}
-use Rattle.lists.proofs.Laws.Over.{Written, written-none, written-length, written-more, written-all, length-over, getD-over, over-split}
+use Rattle.lists.proofs.Laws.Over.{Written, written-none, written-length, written-more, written-all, length-over, getD-over}
 use Rattle.rounds.specs.Colours.{noColour, colourAt}
 use Rattle.rounds.specs.Board.{colourStart, lineOf, lineAt, overAt}
 
@@ -51,27 +51,6 @@ module _ (start : ℕ) (new old : List ℕ) (fits : start + length new ≤ lengt
   pub overAt-before : (n : ℕ) → n ≤ start → take n (overAt start new old) ≡ take n old
   unfolding overAt
   overAt-before n h = take-append-le n (take start old) (over new (drop start old)) (omega (arith, front-long)) ∙ take-take n start old h
-
-  abbrev front : List ℕ
-  front = take start old ++ new
-
-  abbrev rest : List ℕ
-  rest = drop (length new) (drop start old)
-
-  front-is : length front ≡ start + length new
-  front-is = length-append (take start old) new ∙ omega (arith, front-long)
-
-  in-two : overAt start new old ≡ front ++ rest
-  unfolding overAt
-  in-two = ap (λ (t : List ℕ). take start old ++ t) (over-split new (drop start old)) ∙ sym (append-assoc (take start old) new rest)
-
-  pub overAt-after : drop (start + length new) (overAt start new old) ≡ drop (start + length new) old
-  overAt-after = ap (drop (start + length new)) in-two ∙ drop-at front rest (start + length new) front-is ∙ drop-drop (length new) start old
-
-  pub overAt-later : (n : ℕ) → start + length new ≤ n → drop n (overAt start new old) ≡ drop n old
-  overAt-later n h =
-      let e : start + length new + (n - (start + length new)) ≡ n = omega (arith, h) in
-      rw e at (sym (drop-drop (n - (start + length new)) (start + length new) (overAt start new old)) ∙ ap (drop (n - (start + length new))) overAt-after ∙ drop-drop (n - (start + length new)) (start + length new) old)
 
   pub overAt-entry : (i : ℕ) → i < length new → getD (overAt start new old) (start + i) 0 ≡ getD new i 0
   unfolding overAt

@@ -14,7 +14,7 @@ use Rattle.lists.specs.First.{firstAt, firsts}
 use Rattle.lists.specs.Numbers.{upFrom}
 use Rattle.lists.proofs.Laws.Tests.{split}
 use Rattle.lists.proofs.Laws.Every.{keep-none, keep-yes, keep-no, keep-mem}
-use Rattle.lists.proofs.Laws.Sets.{mem-map, map-mem}
+use Rattle.lists.proofs.Laws.Sets.{map-mem}
 use Rattle.lists.proofs.Laws.Counting.{firstAt-agree}
 use Rattle.lists.proofs.Laws.Groups.{firstAt-map, firsts-none, known-firsts, new-firsts, number-told}
 use Rattle.stored.specs.Model.{Model, size, isRepIn, isRep}
@@ -210,17 +210,6 @@ left-id a b x m = Memᴰ·append-left (map (λ (y : ℕ). y + 64) (reps b)) (map
 pub right-id : (a b : Model) (y : ℕ) → List·Memᴰ y (reps b) → List·Memᴰ (y + 64) (idsOf a b)
 unfolding idsOf
 right-id a b y m = Memᴰ·append-right (map (λ (x : ℕ). x + 0) (reps a)) (map-mem (λ (x : ℕ). x + 64) (reps b) y m)
-
--- what an id is: a representative of the left, or one of the right
-pub id-cases : (a b : Model) (i : ℕ) → List·Memᴰ i (idsOf a b) → ((x : ℕ) × List·Memᴰ x (reps a) × (i ≡ x + 0)) ⊎ ((y : ℕ) × List·Memᴰ y (reps b) × (i ≡ y + 64))
-unfolding idsOf
-id-cases a b i m = go (List·Memᴰ·append-cases (map (λ (x : ℕ). x + 0) (reps a)) m)
-  where
-    go :
-        List·Memᴰ i (map (λ (x : ℕ). x + 0) (reps a)) ⊎ List·Memᴰ i (map (λ (y : ℕ). y + 64) (reps b))
-        → ((x : ℕ) × List·Memᴰ x (reps a) × (i ≡ x + 0)) ⊎ ((y : ℕ) × List·Memᴰ y (reps b) × (i ≡ y + 64))
-    go (inl n) = inl (mem-map (λ (x : ℕ). x + 0) (reps a) i n)
-    go (inr n) = inr (mem-map (λ (y : ℕ). y + 64) (reps b) i n)
 
 module _ (a b : Model) (c : Sides) (key : ℕ → Key) (same : ℕ → ℕ → Bool)
     (left-key : (x : ℕ) → isRep a x ≡ true → key (x + 0) ≡ keyOf a (c .left) x) (right-key : (y : ℕ) → isRep b y ≡ true → key (y + 64) ≡ keyOf b (c .right) y)

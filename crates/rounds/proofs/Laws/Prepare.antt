@@ -15,7 +15,7 @@ use Rattle.stored.specs.Signature.{signature, sameSignature}
 use Rattle.stored.proofs.Laws.WellFormed.{WellFormed}
 use Rattle.rounds.specs.Colours.{noColour, colourAt}
 use Rattle.rounds.specs.Board.{boardRoom, numberStart, countStart, linkStart, startStart, colourStart, raised, joined, cellsOf, numbersFrom, overAt, picked, cellsOn, coloursOn, Elements, Listed, Relisted, NumbersAt, Renumbered, Empty, Board, Prepared}
-use Rattle.rounds.proofs.Laws.Board.{colour-there, overAt-length, overAt-before, overAt-later, overAt-entry}
+use Rattle.rounds.proofs.Laws.Board.{colour-there, overAt-length, overAt-before, overAt-entry}
 use Rattle.rounds.proofs.Laws.Cells.{cells-few, cells-known}
 use Rattle.rounds.proofs.Laws.Joined.{joined-even}
 use Rattle.rounds.proofs.Laws.Listed.{same-cells, cells-around, listed-around, listed-places}
@@ -40,12 +40,6 @@ module _ (start : ℕ) (new old out : List ℕ) (fits : start + length new ≤ l
       ∙ sym (getD-take start (overAt start new old) i 0 h)
       ∙ ap (λ (l : List ℕ). getD l i 0) (overAt-before start new old fits start (omega arith))
       ∙ getD-take start old i 0 h
-
-  out-above : (i : ℕ) → start + length new ≤ i → getD out i 0 ≡ getD old i 0
-  out-above i h =
-      let e : i + 0 ≡ i = omega arith in
-      ap (λ (l : List ℕ). getD l i 0) is
-      ∙ (rw e at (sym (getD-drop i (overAt start new old) 0 0) ∙ ap (λ (l : List ℕ). getD l 0 0) (overAt-later start new old fits i h) ∙ getD-drop i old 0 0))
 
   out-entry : (i : ℕ) → i < length new → getD out (start + i) 0 ≡ getD new i 0
   out-entry i h = ap (λ (l : List ℕ). getD l (start + i) 0) is ∙ overAt-entry start new old fits i h

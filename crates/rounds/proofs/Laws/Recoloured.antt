@@ -25,7 +25,7 @@ use Rattle.rows.proofs.Laws.Given.{rootsIn, roots-between, roots-count, roots-f
 use Rattle.stored.proofs.Laws.Representatives.{rep-known}
 use Rattle.rounds.specs.Colours.{colourAt}
 use Rattle.rounds.specs.Keys.{Key, keyOf, sameBag, sameKey, placesFrom}
-use Rattle.rounds.specs.Round.{Sides, recoloured, round}
+use Rattle.rounds.specs.Round.{Sides, round}
 use Rattle.rounds.specs.Board.{numberStart, raised, joined, cellsOf, numbersFrom, sameNumbers, picked, cellsOn, coloursOn, startOf, placesOn, alikeOn, heldAfter, grouped, Small, Ready, Board, Prepared}
 use Rattle.rounds.proofs.Laws.Joined.{joined-even, joined-left, joined-right}
 use Rattle.rounds.proofs.Laws.Numbered.{numbers-length, numbers-small, bag-by-numbers}

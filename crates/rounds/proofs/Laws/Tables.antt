@@ -58,9 +58,6 @@ along-start : (w : List ℕ) (from end : ℕ) → Segment from end w → Along w
 along-start w from end s = record { on = s; low = omega arith; high = s .order; only = only-none w }
 
 module _ (w₀ : List ℕ) (from end : ℕ) (w : List ℕ) (i : ℕ) (a : Along w₀ from end w i) where
-  pub along-long : length w ≡ length w₀
-  along-long = a .only .length-kept
-
   long : length w ≡ 20736
   long = a .only .length-kept ∙ a .on .room
 

@@ -18,7 +18,7 @@ use Rattle.lists.proofs.Laws.First.{lowest-passes, lowest-below}
 use Rattle.lists.proofs.Laws.Numbers.{length-upFrom}
 use Rattle.stored.specs.Model.{Model, size}
 use Rattle.rounds.specs.Colours.{colourAt}
-use Rattle.rounds.specs.Round.{reps, Sides, recoloured, newColour, palette, round, coloursOf, colourCount, equalCounts, dead, stable, again, outcome, roundOutcome}
+use Rattle.rounds.specs.Round.{reps, Sides, recoloured, newColour, palette, round, coloursOf, colourCount, equalCounts, dead, stable, again, roundOutcome}
 use Rattle.rounds.specs.Classes.{allSingle, openAt, smallestOpen, lowestOf}
 use Rattle.lists.proofs.Laws.Counting.{howMany-yes, howMany-no, howMany-some, howMany-mem, howMany-map, different-fit}
 use Rattle.rounds.proofs.Theorems.Keys.{onLeft, onRight}

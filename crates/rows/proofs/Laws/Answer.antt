@@ -1,8 +1,7 @@
 -- The laws of an outcome's answer and output, case by case, for an outcome known by an equation. Assumes nothing.
 use Prim.Native.Nat.{ℕ}
-use mathlib.Core.Path.{_≡_, refl, sym, _∙_, ap}
+use mathlib.Core.Path.{_≡_, refl, sym}
 use mathlib.Core.List.{List}
-use native.Mathlib.Omega.{arith}
 use Rattle.lists.specs.Part.{over}
 use Rattle.stored.specs.declared.refusal.Refusal.{Refusal}
 use Rattle.rows.specs.declared.answer.Answer.{Answer}

@@ -1,6 +1,6 @@
 -- The laws of the files of a call: going on with a file that was read, refusing one that was not, and the same of two files. Assumes nothing.
 use Prim.Native.Nat.{ℕ}
-use mathlib.Core.Path.{_≡_, refl, sym, _∙_, ap, subst}
+use mathlib.Core.Path.{_≡_, refl, sym, _∙_, ap}
 use mathlib.Core.List.{List}
 use native.Mathlib.Omega.{arith}
 use Rattle.stored.specs.declared.refusal.Fault.{Fault}

@@ -1,7 +1,7 @@
 -- The laws of pair lists: one pair and one image case by case, and from a pair on. Assumes nothing.
-use Prim.Native.Nat.{ℕ, zero, suc, _+_, _-_, _*_, _<_, _≤_}
-use mathlib.Core.Path.{_≡_, refl, sym, _∙_, ap}
-use mathlib.Core.Bool.{Bool, true, false, not}
+use Prim.Native.Nat.{ℕ, suc, _+_, _-_, _*_, _<_, _≤_}
+use mathlib.Core.Path.{_≡_, refl, _∙_, ap}
+use mathlib.Core.Bool.{true, false, not}
 use mathlib.Core.Logic.{_⊎_, inl, inr}
 use mathlib.Core.List.{List}
 use native.Mathlib.Omega.{arith}
@@ -16,7 +16,7 @@ use Rattle.stored.specs.Types.{typeIn}
 use Rattle.stored.specs.Model.{Model, rootOf}
 use Rattle.rows.specs.declared.pairs.Pair.{Pair}
 use Rattle.rows.specs.declared.pairs.Pair.the-variants as pair
-use Rattle.rows.specs.Pairs.{pairCount, leftAt, rightAt, pairIn, pairAt, Given, images, refused, conflicts, giveFrom, givenBy}
+use Rattle.rows.specs.Pairs.{pairCount, leftAt, rightAt, pairIn, pairAt, images, refused, conflicts, giveFrom, givenBy}
 
 -- both elements of a pair stand in the list
 pub pair-inside : (pairs : List ℕ) (i : ℕ) → i < pairCount pairs → 2 * i + 1 < length pairs

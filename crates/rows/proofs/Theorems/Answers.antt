@@ -1,15 +1,13 @@
 -- What the calls answer with 0 is a map, as 19 would judge it; inverse answers 0 exactly for the maps that have one, and then each map undoes the
 -- other. Assumes nothing.
-use Prim.Native.Nat.{ℕ, _<_, _≤_}
+use Prim.Native.Nat.{ℕ, _≤_}
 use mathlib.Core.Path.{_≡_, refl, sym, _∙_, ap, subst}
 use mathlib.Core.Logic.{_⊎_, inl, inr}
-use mathlib.Core.Bool.{Bool, true, false, _&&_}
+use mathlib.Core.Bool.{true, false, _&&_}
 use mathlib.Core.List.{List}
-use native.Mathlib.Omega.{arith}
-use lib.ListN.{length, getD}
+use lib.ListN.{length}
 use lib.Dec.{ltb}
-use Rattle.lists.proofs.Laws.Tests.{split, clash, and-left, and-right}
-use Rattle.stored.specs.declared.refusal.Refusal.{Refusal}
+use Rattle.lists.proofs.Laws.Tests.{split, and-left}
 use Rattle.stored.specs.Model.{Model, size}
 use Rattle.stored.specs.Signature.{Signature, signature, sameSignature}
 use Rattle.stored.proofs.Laws.WellFormed.{WellFormed}
@@ -21,7 +19,7 @@ use Rattle.rows.specs.Identity.{identityModel}
 use Rattle.rows.specs.Compose.{composeMaps, composeModels}
 use Rattle.rows.specs.Inverse.{inverseModels}
 use Rattle.rows.proofs.Laws.Inverse.{inverse-accepted, inverse-none as without-inverse}
-use Rattle.rows.proofs.Theorems.Maps.{Map, map-facts, facts-map, identity-map, then-map}
+use Rattle.rows.proofs.Theorems.Maps.{map-facts, facts-map, identity-map, then-map}
 use Rattle.rows.proofs.Theorems.Inverse.{inverse-map, then-inverse, inverse-then}
 
 -- models of one signature have as many relations

@@ -1,25 +1,25 @@
 -- Check accepts exactly the lists that give every source class one image of its type and keep all relations, its map is then that assignment, and
 -- 16, 17 and 18 are answered exactly under their conditions. Assumes nothing.
-use Prim.Native.Nat.{ℕ, zero, suc, _+_, _<_, _≤_, _%_, zero-le}
+use Prim.Native.Nat.{ℕ, suc, _+_, _<_, _≤_, _%_, zero-le}
 use mathlib.Core.Path.{_≡_, refl, sym, _∙_, ap, subst, subst⁻¹}
 use mathlib.Core.Logic.{_⊎_, inl, inr, by-cases}
-use mathlib.Core.Bool.{Bool, true, false, not, _&&_}
+use mathlib.Core.Bool.{true, false, not}
 use mathlib.Core.List.{List}
 use native.Mathlib.Omega.{arith}
-use native.Mathlib.Decide.{ℕ-discrete, decLe}
-use borrow.Author.Tests.{eqb-true, eqb-false, ltb-true, ltb-false, eq-eqb, ne-eqb, lt-ltb, le-ltb, not-true, not-false}
+use native.Mathlib.Decide.{decLe}
+use borrow.Author.Tests.{eqb-true, ltb-false, eq-eqb, le-ltb, not-true, not-false}
 use lib.ListN.{length, getD, replicate, length-replicate, getD-replicate, List·getD-eq-default}
 use lib.Seq.{ext-getD}
 use lib.Dec.{eqb, ltb}
 use Rattle.lists.specs.First.{lowest}
-use Rattle.lists.proofs.Laws.Tests.{split, clash, and-left, and-right, and-both}
-use Rattle.lists.proofs.Laws.First.{lowest-within, lowest-passes, lowest-below, lowest-none}
+use Rattle.lists.proofs.Laws.Tests.{split, clash}
+use Rattle.lists.proofs.Laws.First.{lowest-passes, lowest-below, lowest-none}
 use Rattle.stored.specs.declared.refusal.Refusal.{Refusal}
 use Rattle.stored.specs.declared.refusal.Refusal.the-variants.{Malformed, NoRoom, NotCanonical, SignaturesDiffer, UnknownElement, TypesDiffer, ImageMissing, ConflictingImages, RelationNotKept, NotAMap, OddPairs}
-use Rattle.stored.specs.Model.{Model, size, typeOf, rootOf, isRep}
+use Rattle.stored.specs.Model.{Model, size, typeOf, isRep}
 use Rattle.stored.specs.Signature.{signature, sameSignature}
 use Rattle.stored.proofs.Laws.WellFormed.{WellFormed}
-use Rattle.stored.proofs.Laws.Representatives.{rep-root, rep-known, root-rep}
+use Rattle.stored.proofs.Laws.Representatives.{rep-known, root-rep}
 use Rattle.rows.specs.Rows.{kept, firstUnkeptBy, firstUnkept}
 use Rattle.rows.specs.Maps.{isMap}
 use Rattle.rows.specs.Pairs.{pairCount, leftAt, rightAt, pairIn, pairAt, Given, images, conflicts, giveFrom}

@@ -1,34 +1,33 @@
 -- The inverse of a map that is one to one and onto the classes, where each relation has as many normalised rows on both sides: it is a map, and
 -- the two maps undo each other. The rows go back because the images of the source's rows are as many as the target's. Assumes nothing.
-use Prim.Native.Nat.{ℕ, zero, suc, _+_, _<_, _≤_, zero-le}
-use mathlib.Core.Path.{_≡_, refl, sym, _∙_, ap, ap₂, subst, subst⁻¹}
+use Prim.Native.Nat.{ℕ, _<_, _≤_, zero-le}
+use mathlib.Core.Path.{_≡_, sym, _∙_, ap, subst, subst⁻¹}
 use mathlib.Core.Logic.{_⊎_, inl, inr}
-use mathlib.Core.Bool.{Bool, true, false, _&&_, _||_, not}
-use mathlib.Core.List.{List, [], _∷_, map, List·Memᴰ}
+use mathlib.Core.Bool.{true, false, _||_}
+use mathlib.Core.List.{List, map, List·Memᴰ}
 use native.Mathlib.Omega.{arith}
-use borrow.Author.Tests.{eqb-true, eqb-false, eq-eqb, ne-eqb, ltb-true, not-true, not-false}
+use borrow.Author.Tests.{eqb-true, ltb-true}
 use lib.ListN.{length, getD, length-map, List·getD-eq-default}
 use lib.Seq.{ext-getD}
-use lib.Dec.{eqb, ltb}
-use Rattle.lists.specs.Every.{all}
+use lib.Dec.{eqb}
 use Rattle.lists.specs.First.{firstAt, firsts}
 use Rattle.lists.specs.Numbers.{upFrom}
 use Rattle.lists.specs.Order.{sameRow}
-use Rattle.lists.proofs.Laws.Tests.{split, clash, and-left, and-right}
-use Rattle.lists.proofs.Laws.Every.{all-mem, mem-place, getD-inside}
+use Rattle.lists.proofs.Laws.Tests.{split, and-left, and-right}
+use Rattle.lists.proofs.Laws.Every.{all-mem, getD-inside}
 use Rattle.lists.proofs.Laws.First.{firstAt-passes}
 use Rattle.lists.proofs.Laws.Numbers.{upFrom-mem}
 use Rattle.lists.proofs.Laws.Order.{same-row, same-row-refl}
-use Rattle.stored.specs.Model.{Rel, Model, size, typeOf, rootOf, isRep, isRepIn, relationAt}
-use Rattle.stored.proofs.Laws.WellFormed.{WellFormed, RelationFormed}
-use Rattle.stored.proofs.Laws.Representatives.{rep-below, rep-root, rep-known, root-rep}
+use Rattle.stored.specs.Model.{Model, size, typeOf, rootOf, isRep, relationAt}
+use Rattle.stored.proofs.Laws.WellFormed.{WellFormed}
+use Rattle.stored.proofs.Laws.Representatives.{rep-known, root-rep}
 use Rattle.rows.proofs.Laws.Rows.{length-through}
 use Rattle.lists.proofs.Laws.Entries.{length-entries, entry-at}
 use Rattle.rows.specs.Rows.{through, normalRows, normalCount, imagesOf}
 use Rattle.rows.specs.Maps.{identityOf, thenMap, alone, oneToOne, reached, onto, sameCount, sameCounts, invertible, inverseEntry, inverseOf}
 use Rattle.lists.proofs.Laws.Sets.{Distinct, covers, map-distinct, mem-map, map-mem, firsts-distinct, mem-firsts, firsts-mem}
-use Rattle.rows.proofs.Theorems.Through.{through-at, through-any, through-through, through-self, through-same, through-apart}
-use Rattle.rows.proofs.Theorems.Maps.{Keeps, Map, short, image-rep, identity-length, identity-rep, identity-alias}
+use Rattle.rows.proofs.Theorems.Through.{through-any, through-through, through-self, through-apart}
+use Rattle.rows.proofs.Theorems.Maps.{Keeps, Map, short, identity-length, identity-rep, identity-alias}
 
 module _ (a b : Model) (wa : WellFormed a) (wb : WellFormed b) (f : List ℕ) (m : Map a b f) (known : (k : ℕ) (row : List ℕ) → List·Memᴰ row (relationAt a k .rows) → (x : ℕ) → List·Memᴰ x row → x < size a) (h : invertible a b f ≡ true) where
   is-one-to-one : oneToOne f ≡ true

@@ -1,12 +1,12 @@
 -- Maps: what `isMap` says as facts; identity and composite are maps, composing is associative and identity neutral, and to apply a composite is
 -- to apply twice. Assumes nothing.
-use Prim.Native.Nat.{ℕ, zero, suc, _+_, _<_, _≤_, zero-le}
-use mathlib.Core.Path.{_≡_, refl, sym, _∙_, ap, ap₂, subst}
-use mathlib.Core.Logic.{_⊎_, inl, inr, by-cases}
-use mathlib.Core.Bool.{Bool, true, false, _&&_, not}
-use mathlib.Core.List.{List, [], _∷_, map, List·Memᴰ}
+use Prim.Native.Nat.{ℕ, _+_, _<_, _≤_, zero-le}
+use mathlib.Core.Path.{_≡_, refl, sym, _∙_, ap}
+use mathlib.Core.Logic.{_⊎_, inl, inr}
+use mathlib.Core.Bool.{true, false, _&&_, not}
+use mathlib.Core.List.{List, map, List·Memᴰ}
 use native.Mathlib.Omega.{arith}
-use borrow.Author.Tests.{eqb-true, eq-eqb, not-true, not-false}
+use borrow.Author.Tests.{eqb-true, eq-eqb, not-false}
 use lib.ListN.{length, getD, List·getD-eq-default}
 use lib.Seq.{ext-getD}
 use lib.Dec.{eqb}
@@ -14,21 +14,20 @@ use Rattle.lists.specs.Every.{all, any}
 use Rattle.lists.specs.First.{lowest}
 use Rattle.lists.specs.Numbers.{upFrom}
 use Rattle.lists.specs.Order.{sameRow}
-use Rattle.lists.proofs.Laws.Tests.{split, clash, and-left, and-right, and-both}
+use Rattle.lists.proofs.Laws.Tests.{split, and-left, and-right, and-both}
 use Rattle.lists.proofs.Laws.Every.{all-mem, mem-all, any-mem, mem-any, mem-place}
 use Rattle.lists.proofs.Laws.First.{lowest-below, lowest-none}
 use Rattle.lists.proofs.Laws.Numbers.{upFrom-mem, mem-upFrom}
 use Rattle.lists.proofs.Laws.Order.{same-row, same-row-refl}
-use Rattle.stored.specs.Types.{typeIn}
-use Rattle.stored.specs.Model.{Rel, Model, size, typeOf, rootOf, isRep, isRepIn, relationAt}
+use Rattle.stored.specs.Model.{Model, size, typeOf, rootOf, isRep, relationAt}
 use Rattle.stored.proofs.Laws.WellFormed.{WellFormed}
-use Rattle.stored.proofs.Laws.Representatives.{rep-below, rep-root, rep-known, root-rep}
+use Rattle.stored.proofs.Laws.Representatives.{rep-root, rep-known, root-rep}
 use Rattle.rows.proofs.Laws.Rows.{length-through}
 use Rattle.lists.proofs.Laws.Entries.{length-entries, entry-at}
 use Rattle.rows.specs.Rows.{through, hasRow, normalRows, imagesOf, rowsKept, keptBy, kept, firstUnkeptBy, firstUnkept}
 use Rattle.rows.specs.Maps.{entryIn, entryHolds, isMap, identityEntry, identityOf, thenMap}
 use Rattle.lists.proofs.Laws.Sets.{mem-map, map-mem}
-use Rattle.rows.proofs.Theorems.Through.{through-at, through-any, through-through, through-self}
+use Rattle.rows.proofs.Theorems.Through.{through-any, through-through, through-self}
 
 -- each row of a relation has a row of the target that it goes to
 unfoldable pub Keeps : Model → Model → List ℕ → ℕ → Type 0

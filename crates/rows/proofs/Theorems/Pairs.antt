@@ -1,25 +1,24 @@
 -- What a pair list gives: each pair is good and has its image in the result, and every entry comes from a pair; or the first place that fails,
 -- with what is wrong there. Assumes nothing.
 use Prim.Native.Nat.{ℕ, zero, suc, _+_, _<_, _≤_}
-use mathlib.Core.Path.{_≡_, refl, sym, _∙_, ap, subst}
+use mathlib.Core.Path.{_≡_, refl, sym, _∙_, subst}
 use mathlib.Core.Logic.{_⊎_, inl, inr, by-cases}
-use mathlib.Core.Bool.{Bool, true, false, not, _&&_}
+use mathlib.Core.Bool.{true, false}
 use mathlib.Core.List.{List}
 use native.Mathlib.Omega.{arith}
 use native.Mathlib.Decide.{ℕ-discrete}
-use borrow.Author.Tests.{eqb-true, eqb-false, ltb-true, eq-eqb, ne-eqb, ltb-false, not-true, not-false}
+use borrow.Author.Tests.{eqb-true, eqb-false, ltb-true, eq-eqb, ltb-false}
 use lib.ListN.{length, getD, set, length-set}
 use lib.Seq.{getD-set-same, getD-set-other}
 use lib.Dec.{eqb, ltb}
 use Rattle.lists.proofs.Laws.Tests.{split, clash}
 use Rattle.stored.specs.declared.refusal.Refusal.{Refusal}
 use Rattle.stored.specs.declared.refusal.Refusal.the-variants.{ConflictingImages}
-use Rattle.stored.specs.Types.{typeIn}
 use Rattle.stored.specs.Model.{Model, size, typeOf, rootOf}
 use Rattle.stored.proofs.Laws.WellFormed.{WellFormed}
 use Rattle.rows.specs.declared.pairs.Pair.{Pair}
 use Rattle.rows.specs.declared.pairs.Pair.the-variants as pair
-use Rattle.rows.specs.Pairs.{leftAt, rightAt, pairIn, pairAt, Given, images, refused, conflicts, giveFrom}
+use Rattle.rows.specs.Pairs.{leftAt, rightAt, pairAt, Given, images, refused, conflicts, giveFrom}
 use Rattle.rows.proofs.Laws.Pairs.{pair-left-unknown, pair-right-unknown, pair-types-differ, pair-good, conflicts-none, conflicts-given}
 
 -- the class that a pair names, and the class that it means

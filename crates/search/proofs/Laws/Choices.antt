@@ -489,11 +489,6 @@ pub next-none : (a b : Model) (w : List ℕ) → nextChoice (choicesIn a b w 0) 
 unfolding choicesIn nextChoice
 next-none a b w = refl
 
--- the colours of two rows
-pub sides-of : (a b : Model) (l r : List ℕ) → sidesIn a b (l ∷ r ∷ []) ≡ record { left = take (size a) l; right = take (size b) r }
-unfolding sidesIn
-sides-of a b l r = refl
-
 -- before any is looked at, all right representatives are left
 pub reps-all : (b : Model) → repsFrom b 0 ≡ reps b
 unfolding repsFrom

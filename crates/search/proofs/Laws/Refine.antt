@@ -133,9 +133,6 @@ module _ (s : List ℕ) (l : Layout) (r : Reads s l) (row : List ℕ) (h : lengt
   pub side-long : length (take (l .size) row) ≡ size (modelOf s)
   side-long = sym side-front ∙ size-is s l r
 
-  pub side-few : length (take (l .size) row) ≤ maxElements
-  side-few = omega (arith, side-front, size-few s l r)
-
 -- the colours after a round are weighed, by whether the counts of both sides are equal
 module _ (a b : Model) (left right : List ℕ) (before : ℕ) (equal : Bool) (told : equal ≡ equalCounts a b (record { left = left; right = right })) (w₀ : List ℕ) (depth : ℕ) where
   abbrev both : Sides

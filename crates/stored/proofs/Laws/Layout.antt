@@ -1,13 +1,10 @@
 -- The laws of a layout that is built one relation at a time. Assumes nothing.
-use Prim.Native.Nat.{ℕ, zero, suc, _+_, _*_, _<_}
-use mathlib.Core.Path.{_≡_, refl, sym, _∙_, ap, ap₂}
+use Prim.Native.Nat.{ℕ, suc, _+_, _*_, _<_}
+use mathlib.Core.Path.{_≡_, refl, sym, _∙_, ap}
 use mathlib.Core.List.{List, [], _∷_, _++_, map, map-append}
-use native.Mathlib.Omega.{arith}
 use lib.ListN.{length, replicate, set, length-map, length-append}
-use Rattle.lists.specs.Part.{over}
 use Rattle.lists.proofs.Laws.Over.{over-at}
-use Rattle.stored.specs.declared.layout.Layout.{Layout}
-use Rattle.stored.specs.Model.{Rel, Model, size}
+use Rattle.stored.specs.Model.{Rel, Model}
 use Rattle.stored.specs.Layout.{arity, count, table, rowsFrom, rootsEnd, layoutOf, withRelation}
 
 -- a store just past the entries of a table makes one entry more

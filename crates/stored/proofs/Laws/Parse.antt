@@ -4,7 +4,7 @@ use Prim.Native.Nat.{ℕ, zero, suc, _+_, _-_, _≤_}
 use mathlib.Core.Path.{_≡_, refl, sym, _∙_, ap, subst}
 use mathlib.Core.Logic.{_⊎_, inl, inr}
 use mathlib.Core.Bool.{Bool, true, false, _&&_}
-use mathlib.Core.List.{List, [], _∷_}
+use mathlib.Core.List.{List, []}
 use native.Mathlib.Omega.{arith}
 use borrow.Author.Tests.{eqb-true, eqb-false, eq-eqb, ne-eqb}
 use lib.ListN.{length}
@@ -26,7 +26,7 @@ use Rattle.stored.specs.Field.{fieldAt, faultAt}
 use Rattle.stored.specs.Types.{typesHold}
 use Rattle.stored.specs.Roots.{rootsHold}
 use Rattle.stored.specs.Relation.{arityOf, countOf, cellsOf, relationHolds, headIf, headOf}
-use Rattle.stored.specs.Model.{Rel, Model}
+use Rattle.stored.specs.Model.{Model}
 use Rattle.stored.proofs.Laws.Field.{field-within}
 use Rattle.stored.specs.Parse.{Parsed, model, fault, endAt, itemAt, relationOf, Rest, relations, broken, before, restAt, modelWith, parseRoots, parse}
 

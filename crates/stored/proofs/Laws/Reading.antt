@@ -1,12 +1,12 @@
 -- What is known of a file that was read, with its layout: the model is well formed, and its types, roots and relations stand where the layout
 -- says. Assumes nothing.
-use Prim.Native.Nat.{ℕ, _+_, _*_, _≤_, _<_}
+use Prim.Native.Nat.{ℕ, _+_, _≤_, _<_}
 use mathlib.Core.Path.{_≡_, refl, sym, _∙_, ap, subst}
-use mathlib.Core.List.{List, [], _∷_, map}
+use mathlib.Core.List.{List, map}
 use native.Mathlib.Omega.{arith}
 use lib.ListN.{length, getD, replicate, length-map, List·getD-map}
 use Rattle.lists.specs.Numbers.{sum}
-use Rattle.lists.specs.Part.{part, over}
+use Rattle.lists.specs.Part.{part}
 use Rattle.lists.proofs.Laws.Over.{getD-over}
 use Rattle.stored.specs.declared.refusal.Fault.{Fault}
 use Rattle.stored.specs.declared.layout.Layout.{Layout}

@@ -2,10 +2,10 @@
 use Prim.Native.Nat.{ℕ, zero, suc, _+_, _*_, _-_, _≤_, _<_, zero-le}
 use mathlib.Core.Path.{_≡_, refl, sym, _∙_, ap, subst}
 use mathlib.Core.Logic.{_⊎_, inl, inr}
-use mathlib.Core.Bool.{Bool, true, false, _&&_, _||_}
-use mathlib.Core.List.{List, [], _∷_, map, List·Memᴰ, List·Memᴰ·not-nil, List·Memᴰ·cases-cons}
+use mathlib.Core.Bool.{true, false, _&&_, _||_}
+use mathlib.Core.List.{List, [], _∷_, List·Memᴰ, List·Memᴰ·not-nil, List·Memᴰ·cases-cons}
 use native.Mathlib.Omega.{arith}
-use borrow.Author.Tests.{eqb-true, leb-true, ltb-true, leb-false}
+use borrow.Author.Tests.{eqb-true, leb-true, ltb-true}
 use lib.ListN.{length, getD, take, drop}
 use lib.Dec.{ltb, leb, eqb}
 use Rattle.lists.specs.Every.{all}
@@ -25,7 +25,7 @@ use Rattle.stored.specs.Types.{typesHold, typeIn}
 use Rattle.stored.specs.Roots.{rootHolds, rootsHold}
 use Rattle.stored.specs.Relation.{arityOf, columnsOf, countOf, cellsOf, rowsIn, columnHolds, rowTyped, shapeHolds, rowsHold, relationHolds}
 use Rattle.stored.specs.Model.{Rel, Model, size, typeOf, rootOf}
-use Rattle.stored.specs.Parse.{Parsed, model, fault, itemAt, relationOf, Rest, relations, broken, before, restAt, parse}
+use Rattle.stored.specs.Parse.{model, itemAt, relationOf, Rest, relations, broken, before, restAt, parse}
 use Rattle.stored.specs.Layout.{arity, count, rowsFrom}
 use Rattle.stored.proofs.Laws.Field.{Within, field-within}
 use Rattle.stored.proofs.Laws.Parse.{Found, item-found, rest-end, rest-fault, rest-too-many, rest-more, Accepted, parse-accepted}

@@ -1,7 +1,7 @@
 -- `rows::pairs::conflict` meets its contract: no image was given before, or one that is the same or another. Assumes nothing.
 use Prim.Native.Nat.{ℕ, _<_}
 use mathlib.Core.Path.{_≡_, sym, _∙_, ap}
-use mathlib.Core.Bool.{Bool, true, false, not}
+use mathlib.Core.Bool.{false, not}
 use mathlib.Core.List.{List}
 use borrow.Author.Needs.{needs}
 use lib.Dec.{eqb}

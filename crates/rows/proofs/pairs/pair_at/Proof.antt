@@ -4,7 +4,6 @@ use mathlib.Core.Path.{_≡_, sym, _∙_}
 use mathlib.Core.List.{List}
 use native.Mathlib.Omega.{arith}
 use borrow.Author.Needs.{needs}
-use lib.ListN.{getD}
 use Rattle.lists.specs.Numbers.{sum}
 use Rattle.stored.specs.Types.{typeIn}
 use Rattle.stored.specs.declared.refusal.Refusal.the-variants.{UnknownElement, TypesDiffer}

@@ -1,5 +1,4 @@
 -- `search::alike::alike` meets its contract: the classes of both sides are counted, then the rows of each relation. Assumes nothing.
-use borrow.Author.Needs.{needs}
 use Rattle.stored.proofs.Laws.Reading.{few-relations}
 use Rattle.search.proofs.Laws.Alike.{unlike-classes, alike-classes}
 use Rattle.search.proofs.alike.alike.Statement.{statement}

@@ -1,5 +1,5 @@
 -- `stored::read::last` meets its contract: each return is one case of `lastReading`. Assumes nothing.
-use mathlib.Core.Path.{_≡_, sym, _∙_}
+use mathlib.Core.Path.{sym, _∙_}
 use Rattle.stored.specs.Reading.{lastReading}
 use borrow.Author.Needs.{needs}
 use Rattle.stored.proofs.read.last.Statement.{statement}

@@ -1,13 +1,11 @@
 -- `stored::read::read` meets its contract: each return is one case of `parse`. Assumes nothing.
-use Prim.Native.Nat.{ℕ, _+_, _-_, _≤_}
-use mathlib.Core.Path.{_≡_, refl, sym, _∙_, ap, ap₂}
-use mathlib.Core.Bool.{Bool, true, false, _&&_}
+use Prim.Native.Nat.{ℕ, _+_, _-_}
+use mathlib.Core.Path.{_≡_, sym, _∙_, ap}
+use mathlib.Core.Bool.{Bool, true, false}
 use mathlib.Core.List.{List}
 use native.Mathlib.Omega.{arith}
 use borrow.Author.Tests.{eq-eqb, ne-eqb, not-true, not-false}
 use lib.ListN.{length}
-use lib.Dec.{eqb}
-use Rattle.lists.specs.Numbers.{sum}
 use Rattle.lists.specs.Part.{part}
 use Rattle.lists.proofs.Laws.Part.{part-ends, length-part}
 use Rattle.stored.specs.declared.field.Cursor.{Cursor}

@@ -1,12 +1,11 @@
 -- `stored::read::read_roots` meets its contract: each return is one case of `parseRoots`. Assumes nothing.
-use Prim.Native.Nat.{ℕ, _+_, _-_, _≤_}
-use mathlib.Core.Path.{_≡_, refl, sym, _∙_, ap, ap₂}
-use mathlib.Core.Bool.{Bool, true, false, _&&_}
+use Prim.Native.Nat.{ℕ, _+_, _-_}
+use mathlib.Core.Path.{_≡_, sym, _∙_, ap, ap₂}
+use mathlib.Core.Bool.{Bool, true, false}
 use mathlib.Core.List.{List}
 use native.Mathlib.Omega.{arith}
 use borrow.Author.Tests.{eq-eqb, ne-eqb, not-true, not-false}
 use lib.ListN.{length}
-use lib.Dec.{eqb}
 use Rattle.lists.specs.Numbers.{sum}
 use Rattle.lists.specs.Part.{part}
 use Rattle.lists.proofs.Laws.Part.{part-ends, length-part}
@@ -16,7 +15,6 @@ use Rattle.stored.specs.declared.layout.Layout.{Layout}
 use Rattle.stored.specs.declared.read.Reading.{Reading}
 use Rattle.stored.specs.Limits.{maxRelations, maxCells}
 use Rattle.stored.specs.Field.{faultAt, fieldAt}
-use Rattle.stored.specs.Types.{typesHold}
 use Rattle.stored.specs.Roots.{rootsHold}
 use Rattle.stored.specs.Parse.{modelWith, restAt, parseRoots}
 use Rattle.stored.specs.Reading.{refusedWith, readingOf, begunWith, Begun}

@@ -1,5 +1,4 @@
 -- `stored::read::refused` meets its contract. Assumes nothing.
-use mathlib.Core.Path.{ap}
 use Rattle.stored.specs.Reading.{refusedWith}
 use borrow.Author.Needs.{needs}
 use Rattle.stored.proofs.read.refused.Statement.{statement}

@@ -1,7 +1,7 @@
 -- `stored::read::relations` meets its contract. The invariant: the relations read so far, whose layout is at hand, stand before what is still
 -- to be read, and together these are what the whole rest holds. The measure is the number of relations still allowed. Assumes nothing.
-use Prim.Native.Nat.{ℕ, zero, suc, _+_, _-_, _*_, _≤_, _<_}
-use mathlib.Core.Path.{_≡_, refl, sym, _∙_, ap, ap₂}
+use Prim.Native.Nat.{ℕ, suc, _+_, _-_, _*_, _≤_, _<_}
+use mathlib.Core.Path.{_≡_, refl, sym, _∙_, ap}
 use mathlib.Core.List.{List, [], _∷_, _++_, append-nil, append-assoc}
 use native.Mathlib.Omega.{arith}
 use lib.ListN.{length, length-append}
@@ -16,10 +16,10 @@ use Rattle.stored.specs.declared.read.Answer.the-variants as answer
 use Rattle.stored.specs.declared.read.Reading.{Reading}
 use Rattle.stored.specs.Field.{faultAt}
 use Rattle.stored.specs.Limits.{maxRelations, maxCells}
-use Rattle.stored.specs.Relation.{arityOf, countOf, cellsOf}
+use Rattle.stored.specs.Relation.{cellsOf}
 use Rattle.stored.specs.Model.{Rel, Model}
 use Rattle.stored.specs.Parse.{itemAt, relationOf, Rest, relations, broken, before, restAt, modelWith}
-use Rattle.stored.specs.Layout.{arity, count, rowsFrom, layoutOf, withRelation}
+use Rattle.stored.specs.Layout.{rowsFrom, layoutOf, withRelation}
 use Rattle.stored.specs.Reading.{refusedWith, readingOf, begunWith, Begun, lastReading}
 use Rattle.stored.proofs.Laws.Parse.{Found, item-found, rest-end, rest-fault, rest-too-many, rest-more}
 use Rattle.stored.proofs.Laws.WellFormed.{Measured, found-measured}
