@@ -1,5 +1,4 @@
 // The reader's answers, and how they are written to standard output.
-use libc::STDOUT_FILENO;
 use stored::read::{Answer, read};
 
 // What the reader answers.
@@ -24,24 +23,24 @@ pub(crate) fn same(a: Answer, b: Answer) -> bool {
 
 // A number, in decimal.
 pub(crate) fn say_number(n: usize) {
-    io::print_decimal(STDOUT_FILENO, n as u64);
+    io::print_decimal(1, n as u64);
 }
 
 // The end of a line.
 pub(crate) fn say_line_end() {
-    io::write_all(STDOUT_FILENO, b"\n");
+    io::write_all(1, b"\n");
 }
 
 // A line that is no case.
 pub(crate) fn say_broken_case() {
-    io::write_all(STDOUT_FILENO, b"?\n");
+    io::write_all(1, b"?\n");
 }
 
 // An answer that has a line for itself.
 pub(crate) fn say(answer: Answer) {
     match answer {
         Answer::Model => {
-            io::write_all(STDOUT_FILENO, b"model\n");
+            io::write_all(1, b"model\n");
         }
         Answer::Fault(f) => {
             say_number(f.offset);
@@ -53,11 +52,11 @@ pub(crate) fn say(answer: Answer) {
 // An answer in a row of several: short, and with a space before it if it is not the first.
 pub(crate) fn say_in_row(answer: Answer, is_first: bool) {
     if !is_first {
-        io::write_all(STDOUT_FILENO, b" ");
+        io::write_all(1, b" ");
     }
     match answer {
         Answer::Model => {
-            io::write_all(STDOUT_FILENO, b"m");
+            io::write_all(1, b"m");
         }
         Answer::Fault(f) => say_number(f.offset),
     }

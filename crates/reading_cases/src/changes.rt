@@ -5,7 +5,7 @@ use crate::answer;
 use stored::read::Answer;
 
 // Equal answers in a row: which, how many, and whether they are the first of their line.
-#[derive(Drop)]
+#[derive(Clone, Copy)]
 struct Run {
     answer: Answer,
     count: usize,
@@ -16,7 +16,7 @@ struct Run {
 fn say_run(run: Run) {
     let answer = run.answer;
     answer::say_in_row(answer, run.is_first);
-    io::write_all(libc::STDOUT_FILENO, b"x");
+    io::write_all(1, b"x");
     answer::say_number(run.count);
 }
 

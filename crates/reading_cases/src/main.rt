@@ -7,6 +7,9 @@
 //            offset, then `x` and how many there are in a row
 //
 // For any other line it prints `?`.
+
+#![tactic(auto)]
+
 mod answer;
 mod changes;
 mod hex;
@@ -24,10 +27,10 @@ fn input_buffer() -> [u8; 262144]
 // An input of 262,144 bytes or more is not replayed, since it may go on past the buffer.
 fn main() {
     let mut buf = input_buffer();
-    let n = io::read_full(libc::STDIN_FILENO, &mut buf);
+    let n = io::read_full(0, &mut buf);
     if n < 262144 {
         lines::replay_all(&buf[..n]);
     } else {
-        io::write_all(libc::STDOUT_FILENO, b"too many cases\n");
+        io::write_all(1, b"too many cases\n");
     }
 }

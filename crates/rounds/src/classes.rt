@@ -15,7 +15,7 @@ use rows::maps::is_rep;
 use stored::layout::Layout;
 
 // A colour whose class has two or more members, if there is one.
-#[derive(Drop)]
+#[derive(Clone, Copy)]
 pub enum Open {
     AllSingle,
     At(Colour),

@@ -1,5 +1,5 @@
 // A colour, by its number. It is no element, type or relation, so it can't index rows.
 
 // The number of a colour.
-#[derive(Drop)]
+#[derive(Clone, Copy)]
 pub struct Colour(pub u16);

@@ -82,7 +82,7 @@ fn filled(table: &[u8]) -> u8
 
 // What counting both sides comes to: whether each colour has as many representatives on both, how many colours the left has, and how many of its
 // representatives have each.
-#[derive(Drop)]
+#[derive(Clone, Copy)]
 pub struct Balance {
     pub equal: bool,
     pub count: usize,

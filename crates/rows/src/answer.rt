@@ -3,7 +3,7 @@ use stored::model::Element;
 use stored::refusal::Refusal;
 
 // Of a call that writes a map.
-#[derive(Drop)]
+#[derive(Clone, Copy)]
 pub enum Answer {
     Accepted,
     None,
@@ -11,7 +11,7 @@ pub enum Answer {
 }
 
 // Of apply: the image's representative.
-#[derive(Drop)]
+#[derive(Clone, Copy)]
 pub enum Applied {
     Image(Element),
     Refused(Refusal),

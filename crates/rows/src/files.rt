@@ -7,14 +7,14 @@ use stored::read::{Answer, read};
 use stored::refusal::Refusal;
 
 // Whether the files of a call hold models; otherwise the first that does not.
-#[derive(Drop)]
+#[derive(Clone, Copy)]
 pub enum Verdict {
     Models,
     Refused(Refusal),
 }
 
 // Two files read, with their layouts where both hold models.
-#[derive(Drop)]
+#[derive(Clone, Copy)]
 pub struct Two {
     pub verdict: Verdict,
     pub first: Layout,

@@ -12,7 +12,7 @@ use stored::refusal::Refusal;
 use stored::types::type_in;
 
 // A pair of two known elements of one type, or what is wrong with it.
-#[derive(Drop)]
+#[derive(Clone, Copy)]
 pub enum Pair {
     Good,
     Bad(Refusal),

@@ -2,7 +2,7 @@
 use stored::refusal::Refusal;
 
 // Found, none and exhausted carry the units used.
-#[derive(Drop)]
+#[derive(Clone, Copy)]
 pub enum Answer {
     Found(u64),
     None(u64),

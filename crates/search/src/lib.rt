@@ -1,4 +1,7 @@
 // The search: find, find with pairs, find under a base.
+
+#![tactic(auto)]
+
 mod alike;
 pub mod answer;
 mod choices;

@@ -36,7 +36,7 @@ use stored::layout::Layout;
 const BOARD: usize = 20736;
 
 // What is due: a round, the closing check, or the next candidate of the latest open choice.
-#[derive(Drop)]
+#[derive(Clone, Copy)]
 pub enum Phase {
     Refine,
     Close,
@@ -44,7 +44,7 @@ pub enum Phase {
 }
 
 // What is due next, how many choices are open, and, where a round is due, how many colours the left has.
-#[derive(Drop)]
+#[derive(Clone, Copy)]
 pub struct Turn {
     pub phase: Phase,
     pub depth: usize,

@@ -1,4 +1,7 @@
 // A program that reads a stored model from standard input and says what it holds, one fact a line, or which field is at fault.
+
+#![tactic(auto)]
+
 mod model;
 mod say;
 
@@ -19,6 +22,6 @@ fn show(s: &[u8]) {
 // fault, so a longer input has its fault, and the same offset, within the first 4,096 bytes.
 fn main() {
     let mut buf = io::buffer();
-    let n = io::read_full(libc::STDIN_FILENO, &mut buf);
+    let n = io::read_full(0, &mut buf);
     show(&buf[..n]);
 }

@@ -5,13 +5,13 @@ ghost use Rattle.stored.specs.Field.{field_at};
 use crate::refusal::Fault;
 
 // A place in a file.
-#[derive(Drop)]
+#[derive(Clone, Copy)]
 pub struct Cursor {
     pub at: usize,
 }
 
 // What stands at a cursor: a field, its value `len` bytes from `start`, with the cursor moved past it; or the fault.
-#[derive(Drop)]
+#[derive(Clone, Copy)]
 pub enum Next {
     Field {
         tag: u8,

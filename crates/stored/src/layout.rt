@@ -5,7 +5,7 @@ ghost use Rattle.stored.specs.Layout.{no_layout, with_relation};
 
 // The number of types, the first element of each, the number of elements, where the roots start; the number of relations, and of each its
 // arity, its row count and where its rows start. Tables hold 0 past their last entry.
-#[derive(Drop)]
+#[derive(Clone, Copy)]
 pub struct Layout {
     pub types: usize,
     pub first: [usize; 16],

@@ -3,6 +3,9 @@
 // `read::read` takes any bytes. It answers that they hold a model, with a layout that says where things stand in the file, or the fault of
 // the first field that breaks a rule. Everything else here works on a file that was read: whether it is canonical, whether two files have
 // one signature, the type and the representative of an element, the entries of a row.
+
+#![tactic(auto)]
+
 pub mod canonical;
 pub mod field;
 pub mod layout;

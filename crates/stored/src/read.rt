@@ -15,7 +15,7 @@ use crate::types::{first_elements, total, types_hold};
 
 // What stands after Roots: End; a Relation that keeps its rules, its value `len` bytes from `start`, with its arity and row count and the
 // cursor past it; or the fault.
-#[derive(Drop)]
+#[derive(Clone, Copy)]
 pub enum Item {
     End,
     Relation {
@@ -28,14 +28,14 @@ pub enum Item {
     Fault(Fault),
 }
 
-#[derive(Drop)]
+#[derive(Clone, Copy)]
 pub enum Answer {
     Model,
     Fault(Fault),
 }
 
 // Whether a file holds a model, with its layout; the layout of no model beside a fault.
-#[derive(Drop)]
+#[derive(Clone, Copy)]
 pub struct Reading {
     pub answer: Answer,
     pub layout: Layout,

@@ -12,7 +12,7 @@ use crate::model::Element;
 use crate::types::{total, type_in};
 
 // The arity and the row count of a value that keeps the rules.
-#[derive(Drop)]
+#[derive(Clone, Copy)]
 pub enum Head {
     Rows { arity: usize, count: usize },
     Broken,

@@ -1,29 +1,28 @@
 // Answers, written to standard output.
 use crate::numbers::{Carried, Numbers};
 use crate::{bytes, numbers, work};
-use libc::STDOUT_FILENO;
 use rows::answer::{Answer, Applied};
 use search::answer::Answer as Searched;
 
 // A line that is no call.
 pub(crate) fn say_broken_line() {
-    io::write_all(STDOUT_FILENO, b"?\n");
+    io::write_all(1, b"?\n");
 }
 
 // The end of a line.
 fn say_line_end() {
-    io::write_all(STDOUT_FILENO, b"\n");
+    io::write_all(1, b"\n");
 }
 
 // A value that an answer carries.
 fn say_value(value: usize) {
-    io::write_all(STDOUT_FILENO, b" ");
-    io::print_decimal(STDOUT_FILENO, value as u64);
+    io::write_all(1, b" ");
+    io::print_decimal(1, value as u64);
 }
 
 // A number, and the values after it.
 fn say_numbers(numbers: Numbers) {
-    io::print_decimal(STDOUT_FILENO, numbers.number as u64);
+    io::print_decimal(1, numbers.number as u64);
     let carried = numbers.carried;
     match carried {
         Carried::Nothing => {}
@@ -37,13 +36,13 @@ fn say_numbers(numbers: Numbers) {
 
 // The output of a call.
 fn say_map(out: &[u8]) {
-    io::write_all(STDOUT_FILENO, b" map ");
+    io::write_all(1, b" map ");
     bytes::say(out);
 }
 
 // The work of a call.
 fn say_work(entries: &[u16]) {
-    io::write_all(STDOUT_FILENO, b" work ");
+    io::write_all(1, b" work ");
     work::say(entries);
 }
 

@@ -2,8 +2,6 @@
 ghost use Rattle.std.specs.Prelude.{◌≤◌, ◌*◌, length};
 ghost use Rattle.io.specs.Counts.{IsPrefixLen};
 
-use libc::STDOUT_FILENO;
-
 // The value of a digit; 16 for what is none.
 pub(crate) fn digit(c: u8) -> u8
     ensures { result ≤ 16 }
@@ -85,13 +83,13 @@ pub(crate) fn decode(word: &[u8], out: &mut [u8]) -> usize
 
 // Writes a byte to standard output.
 fn say_byte(byte: u8) {
-    io::print_hex(STDOUT_FILENO, byte as u64, 2);
+    io::print_hex(1, byte as u64, 2);
 }
 
 // Writes bytes to standard output.
 pub(crate) fn say(bytes: &[u8]) {
     if bytes.len() == 0 {
-        io::write_all(STDOUT_FILENO, b"_");
+        io::write_all(1, b"_");
     }
     let mut i: usize = 0;
     while i < bytes.len() {

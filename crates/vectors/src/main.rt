@@ -15,6 +15,9 @@
 // entries that are lent, each of them 5a5a before the call. The answer is its number and the values it carries, then, of each call but
 // apply, `map` and all of the output after the call. Of find, pairs and under `work` follows, with `zero` where the first 32,768 entries
 // are 0 and the rest as before the call, `same` where all are as before, or `other`. For any other line it prints `?`.
+
+#![tactic(auto)]
+
 mod answer;
 mod apply;
 mod arguments;
@@ -44,10 +47,10 @@ fn input_buffer() -> [u8; 1048576]
 // An input of 1,048,576 bytes or more is not replayed, since it may go on past the buffer.
 fn main() {
     let mut buf = input_buffer();
-    let n = io::read_full(libc::STDIN_FILENO, &mut buf);
+    let n = io::read_full(0, &mut buf);
     if n < 1048576 {
         lines::replay_all(&buf[..n]);
     } else {
-        io::write_all(libc::STDOUT_FILENO, b"too many calls\n");
+        io::write_all(1, b"too many calls\n");
     }
 }

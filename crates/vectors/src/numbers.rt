@@ -10,7 +10,7 @@ use search::answer::Answer as Searched;
 use stored::refusal::Refusal;
 
 // The values that an answer carries.
-#[derive(Drop)]
+#[derive(Clone, Copy)]
 pub enum Carried {
     Nothing,
     One(usize),
@@ -18,7 +18,7 @@ pub enum Carried {
 }
 
 // A number, and what it carries.
-#[derive(Drop)]
+#[derive(Clone, Copy)]
 pub struct Numbers {
     pub number: usize,
     pub carried: Carried,

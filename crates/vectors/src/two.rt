@@ -4,7 +4,7 @@ use rows::check::check;
 use rows::inverse::inverse;
 
 // Which of the two is called.
-#[derive(Drop)]
+#[derive(Clone, Copy)]
 pub(crate) enum Call {
     Check,
     Inverse,

@@ -3,7 +3,6 @@ ghost use Rattle.std.specs.Prelude.{◌≡◌, length};
 ghost use Rattle.io.specs.Counts.{IsPrefixLen};
 
 use crate::room;
-use libc::STDOUT_FILENO;
 
 // How many entries a call may use.
 const USED: usize = 32768;
@@ -57,10 +56,10 @@ fn is_cleared(work: &[u16], used: usize) -> bool {
 // Writes to standard output what a call left in its work: `zero` where it is cleared, `same` where it is as before the call, or `other`.
 pub(crate) fn say(work: &[u16]) {
     if is_cleared(work, USED) {
-        io::write_all(STDOUT_FILENO, b"zero");
+        io::write_all(1, b"zero");
     } else if are_all(work, BEFORE) {
-        io::write_all(STDOUT_FILENO, b"same");
+        io::write_all(1, b"same");
     } else {
-        io::write_all(STDOUT_FILENO, b"other");
+        io::write_all(1, b"other");
     }
 }

@@ -1,0 +1,62 @@
+use Prim.Native.Nat.{ℕ, suc, ◌+◌, ◌-◌, ◌*◌, ◌≤◌, ◌<◌}
+use mathlib.Core.Path.{◌≡◌, refl, sym, ◌∙◌, ap}
+use mathlib.Core.List.{List, [], ◌∷◌, ◌++◌, append-nil, append_assoc}
+use native.Mathlib.Omega.{arith}
+use lib.ListN.{length, length-append}
+use Rattle.lists.specs.Numbers.{sum}
+use Rattle.lists.specs.Part.{part}
+use Rattle.stored.specs.declared.refusal.Fault.{Fault}
+use Rattle.stored.specs.declared.field.Cursor.{Cursor}
+use Rattle.stored.specs.declared.layout.Layout.{Layout}
+use Rattle.stored.specs.declared.read.Item.{Item}
+use Rattle.stored.specs.declared.read.Item.TheVariants as item
+use Rattle.stored.specs.declared.read.Answer.TheVariants as answer
+use Rattle.stored.specs.declared.read.Reading.{Reading}
+use Rattle.stored.specs.Field.{fault_at}
+use Rattle.stored.specs.Limits.{max_relations, max_cells}
+use Rattle.stored.specs.Relation.{cells_of}
+use Rattle.stored.specs.Model.{Rel, Model}
+use Rattle.stored.specs.Parse.{item_at, relation_of, Rest, relations, broken, before, rest_at, model_with}
+use Rattle.stored.specs.Layout.{rows_from, layout_of, with_relation}
+use Rattle.stored.specs.Reading.{refused_with, reading_of, begun_with, Begun, last_reading}
+use Rattle.stored.proofs.Laws.Parse.{Found, item_found, rest_end, rest_fault, rest_too_many, rest_more}
+use Rattle.stored.proofs.Laws.WellFormed.{Measured, found_measured}
+use Rattle.stored.proofs.Laws.Layout.{past_of, past_none, past_more, having, layout_more}
+use Rattle.stored.proofs.read.relations.Invariants.{start, reading_end, reading_fault, reading_last, room_for_one, more}
+use Rattle.stored.proofs.read.relations.Goals as goal
+
+pub loop-allowed-init : goal.loop-allowed-init
+loop-allowed-init c = start _ _ _ _ _ _ refl c.requires.0 c.requires.1
+
+pub next_item-requires : goal.next_item-requires
+next_item-requires c = c.loop-allowed.invariant.few
+
+pub returns-in-End : goal.returns-in-End
+returns-in-End c = reading_end _ _ _ _ _ _ _ _ c.loop-allowed.invariant (sym c.next_item.ensures ∙ c.in-End.is)
+
+pub overflow_add-start : goal.overflow_add-start
+overflow_add-start c = omega (arith, found_measured _ _ _ _ _ _ _ _ _ (item_found _ _ _ _ _ _ _ _ _ (sym c.next_item.ensures ∙ c.in-Relation.is)))
+
+pub overflow_add-start-in-Relation : goal.overflow_add-start-in-Relation
+overflow_add-start-in-Relation c = omega (arith, found_measured _ _ _ _ _ _ _ _ _ (item_found _ _ _ _ _ _ _ _ _ (sym c.next_item.ensures ∙ c.in-Relation.is)))
+
+pub with_relation-more-requires : goal.with_relation-more-requires
+with_relation-more-requires c = room_for_one _ _ _ _ _ _ _ _ c.loop-allowed.invariant c.loop-allowed-test.true
+
+pub overflow_mul-room : goal.overflow_mul-room
+overflow_mul-room c = omega (arith, found_measured _ _ _ _ _ _ _ _ _ (item_found _ _ _ _ _ _ _ _ _ (sym c.next_item.ensures ∙ c.in-Relation.is)))
+
+pub overflow_sub-room : goal.overflow_sub-room
+overflow_sub-room c = omega (arith, found_measured _ _ _ _ _ _ _ _ _ (item_found _ _ _ _ _ _ _ _ _ (sym c.next_item.ensures ∙ c.in-Relation.is)))
+
+pub loop-allowed-preserved : goal.loop-allowed-preserved
+loop-allowed-preserved c = more _ _ _ _ _ _ _ _ c.loop-allowed.invariant c.loop-allowed-test.true _ _ _ _ _ (sym c.next_item.ensures ∙ c.in-Relation.is) _ c.with_relation-more.ensures
+
+pub returns-in-Fault : goal.returns-in-Fault
+returns-in-Fault c = c.refused.ensures ∙ reading_fault _ _ _ _ _ _ _ _ c.loop-allowed.invariant _ (sym c.next_item.ensures ∙ c.in-Fault.is)
+
+pub last-requires : goal.last-requires
+last-requires c = c.loop-allowed.invariant.few
+
+pub returns : goal.returns
+returns c = c.last.ensures ∙ reading_last _ _ _ _ _ _ _ _ c.loop-allowed.invariant c.loop-allowed-test.false

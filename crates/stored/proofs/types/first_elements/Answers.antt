@@ -1,0 +1,29 @@
+use Prim.Native.Nat.{ℕ, ◌<◌, ◌≤◌, ◌+◌, ◌-◌, ◌*◌}
+use mathlib.Core.Path.{◌≡◌, refl, sym, ◌∙◌}
+use mathlib.Core.List.{List, [], ◌∷◌, ◌++◌}
+use native.Mathlib.Omega.{arith}
+use native.Mathlib.Numerals.{add-one}
+use lib.ListN.{length, get_or, take, drop, set, replicate}
+use lib.Seq.{drop-cons, take-suc, take_all, length-take-le}
+use Rattle.lists.specs.Part.{over}
+use Rattle.lists.proofs.Laws.Over.{over_at_lem}
+use Rattle.stored.specs.Limits.{max_types}
+use Rattle.stored.specs.Layout.{table, firsts_from}
+use Rattle.stored.proofs.Laws.Types.{length-firsts, firsts_next}
+use Rattle.stored.proofs.types.first_elements.Invariants.{start, more, done}
+use Rattle.stored.proofs.types.first_elements.Goals as goal
+
+pub loop-t-init : goal.loop-t-init
+loop-t-init c = start _
+
+pub overflow_cast-x : goal.overflow_cast-x
+overflow_cast-x c = omega (arith, c.type_inv.types c.loop-t.t)
+
+pub overflow_add-x : goal.overflow_add-x
+overflow_add-x c = omega (arith, c.type_inv.types c.loop-t.t)
+
+pub loop-t-preserved : goal.loop-t-preserved
+loop-t-preserved c = more _ _ _ _ c.loop-t.invariant c.loop-t-test.true c.requires (omega (arith, c.type_inv.types c.loop-t.t))
+
+pub returns : goal.returns
+returns c = done _ _ _ _ c.loop-t.invariant c.loop-t-test.false
