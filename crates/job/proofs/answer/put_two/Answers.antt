@@ -1,0 +1,17 @@
+-- `job::answer::put_two` meets its contract. Assumes nothing.
+use mathlib.Core.Path.{◌∙◌}
+use native.Mathlib.Omega.{arith}
+use Rattle.job.proofs.Laws.Line.{added_more, added_as, listed_two}
+use Rattle.job.proofs.answer.put_two.Goals as goal
+
+pub put_number-at-requires : goal.put_number-at-requires
+put_number-at-requires c = omega (arith, c.requires)
+
+pub put_value-requires : goal.put_value-requires
+put_value-requires c = omega (arith, c.put_number-at.ensures.short, c.put_number-at.auto.line, c.requires)
+
+pub shape_of-line : goal.shape_of-line
+shape_of-line c = c.put_value.auto.line ∙ c.put_number-at.auto.line
+
+pub returns : goal.returns
+returns c = record { added = added_as (added_more c.put_number-at.ensures.added c.put_value.ensures.added) (listed_two _ _); short = omega (arith, c.put_number-at.ensures.short, c.put_value.ensures.short) }

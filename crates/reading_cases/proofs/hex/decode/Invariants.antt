@@ -1,0 +1,14 @@
+-- `reading_cases::hex::decode` meets its contract. The invariant: no more bytes were written than half the digits, and the buffer keeps its length; the
+-- measure is the number of bytes left. Assumes nothing.
+use Prim.Native.Nat.{◌≤◌, ◌-◌, ◌/◌}
+use mathlib.Core.Path.{◌≡◌, sym}
+use native.Mathlib.Omega.{arith}
+use lib.ListN.{length}
+use lib.Seq.{length-take-le}
+use Rattle.reading_cases.proofs.hex.decode.Given as goal
+
+abbrev pub invariant-loop-n : goal.invariant-loop-n
+invariant-loop-n l = (l.n ≤ length l.text / 2) × (length l.out ≡ length l.initial.out)
+
+abbrev pub decreases-loop-n : goal.decreases-loop-n
+decreases-loop-n l = length l.text / 2 - l.n

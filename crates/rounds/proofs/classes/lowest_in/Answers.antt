@@ -1,0 +1,31 @@
+use Rattle.rounds.proofs.classes.lowest_in.Goals.{then-colour_at-k+else-is_rep, else-colour_at-k}
+use Prim.Native.Nat.{ℕ, ◌+◌, ◌-◌, ◌<◌}
+use mathlib.Core.Path.{◌≡◌, sym, ◌∙◌}
+use mathlib.Core.Logic.{⊎_elim}
+use mathlib.Core.Bool.{Bool, true, false}
+use mathlib.Core.List.{List}
+use lib.ListN.{length}
+use Rattle.lists.specs.First.{lowest}
+use Rattle.lists.proofs.Laws.First.{LowestFrom, lowest-from, lowest_passed, lowest_found, lowest-over}
+use Rattle.stored.specs.Model.{is_rep_in}
+use Rattle.rounds.specs.Colours.{colour_at}
+use Rattle.rounds.specs.Parts.{has_colour}
+use Rattle.rounds.proofs.Laws.Parts.{has_colour_lem, has_alias, has_other}
+use Rattle.rounds.proofs.classes.lowest_in.Invariants.{other, an_alias, found}
+use Rattle.rounds.proofs.classes.lowest_in.Goals as goal
+
+pub loop-x-init : goal.loop-x-init
+loop-x-init c = lowest-from _ _
+
+pub returns-then-is_rep : goal.returns-then-is_rep
+returns-then-is_rep c = found _ _ _ _ c.loop-x.invariant c.loop-x-test.true _ c.colour_at.ensures _ c.is_rep.ensures c.if-colour_at-k.true c.if-is_rep.true
+
+pub loop-x-preserved : goal.loop-x-preserved
+loop-x-preserved c =
+    elim c.if-colour_at-k.branch [
+      | then-colour_at-k+else-is_rep w ↦ an_alias _ _ _ _ c.loop-x.invariant c.loop-x-test.true _ c.colour_at.ensures _ w.is_rep.ensures w.if-is_rep.false
+      | else-colour_at-k w ↦ other _ _ _ _ c.loop-x.invariant c.loop-x-test.true _ c.colour_at.ensures w.if-colour_at-k.false
+    ]
+
+pub returns : goal.returns
+returns c = lowest-over c.loop-x.invariant c.loop-x-test.false

@@ -1,0 +1,53 @@
+use Prim.Native.Nat.{ℕ, ◌+◌, ◌-◌, ◌*◌, ◌<◌, ◌≤◌}
+use mathlib.Core.Path.{◌≡◌, sym, ◌∙◌, ap}
+use mathlib.Core.Bool.{Bool}
+use mathlib.Core.List.{List}
+use native.Mathlib.Omega.{arith}
+use lib.ListN.{length, get_or}
+use Rattle.lists.specs.Order.{same_row}
+use Rattle.rounds.specs.Board.{board_room, line_at, lines_on, bucket_at, Bucketed}
+use Rattle.rounds.proofs.Laws.Buckets.{Sought, Walk, bucket_small, head_small, walk_start, walk_over, at_fits, at_known, walk_less, link_small, walk_found, walk_more}
+use Rattle.rounds.proofs.numbers.first_two.Invariants.{sought, as_line}
+use Rattle.rounds.proofs.numbers.first_two.Goals as goal
+
+pub overflow_add-q : goal.overflow_add-q
+overflow_add-q c = omega (arith, bucket_small _ _ _ _ _ _ _ (sought _ _ _ _ _ _ _ c.requires))
+
+pub offset_bounds-board-bucket : goal.offset_bounds-board-bucket
+offset_bounds-board-bucket c = omega (arith, bucket_small _ _ _ _ _ _ _ (sought _ _ _ _ _ _ _ c.requires))
+
+pub bounds-board-bucket : goal.bounds-board-bucket
+bounds-board-bucket c = let p = c.requires in omega (arith, bucket_small _ _ _ _ _ _ _ (sought _ _ _ _ _ _ _ p), p.0)
+
+pub overflow_cast-q : goal.overflow_cast-q
+overflow_cast-q c = omega (arith, head_small _ _ _ _ _ _ _ (sought _ _ _ _ _ _ _ c.requires))
+
+pub loop-q-init : goal.loop-q-init
+loop-q-init c = walk_start _ _ _ _ _ _ _ (sought _ _ _ _ _ _ _ c.requires)
+
+pub same_two-requires : goal.same_two-requires
+same_two-requires c = (c.loop-q.invariant.given.room, at_fits _ _ _ _ _ _ _ _ c.loop-q.invariant c.loop-q-test.true, at_known _ _ _ _ _ _ _ _ c.loop-q.invariant c.loop-q-test.true)
+
+pub returns-then-same_two : goal.returns-then-same_two
+returns-then-same_two c = walk_found _ _ _ _ _ _ _ _ c.loop-q.invariant c.loop-q-test.true _ (as_line c.args.board.now c.args.p (c.loop-q.q - 1) _ c.requires.5 _ c.same_two.ensures) c.if-same_two.true
+
+pub overflow_add-q-in-loop-q : goal.overflow_add-q-in-loop-q
+overflow_add-q-in-loop-q c = omega (arith, at_fits _ _ _ _ _ _ _ _ c.loop-q.invariant c.loop-q-test.true)
+
+pub offset_bounds-board-at : goal.offset_bounds-board-at
+offset_bounds-board-at c = omega (arith, at_fits _ _ _ _ _ _ _ _ c.loop-q.invariant c.loop-q-test.true)
+
+pub bounds-board-at : goal.bounds-board-at
+bounds-board-at c = omega (arith, at_fits _ _ _ _ _ _ _ _ c.loop-q.invariant c.loop-q-test.true, c.loop-q.invariant.given.room)
+
+pub overflow_cast-q-in-loop-q : goal.overflow_cast-q-in-loop-q
+overflow_cast-q-in-loop-q c = omega (arith, link_small _ _ _ _ _ _ _ _ c.loop-q.invariant c.loop-q-test.true)
+
+pub loop-q-smaller : goal.loop-q-smaller
+loop-q-smaller c = walk_less _ _ _ _ _ _ _ _ c.loop-q.invariant c.loop-q-test.true
+
+pub loop-q-preserved : goal.loop-q-preserved
+loop-q-preserved c = walk_more _ _ _ _ _ _ _ _ c.loop-q.invariant c.loop-q-test.true _ (as_line c.args.board.now c.args.p (c.loop-q.q - 1) _ c.requires.5 _ c.same_two.ensures) c.if-same_two.false
+
+pub returns : goal.returns
+returns c = walk_over _ _ _ _ _ _ _ _ c.loop-q.invariant c.loop-q-test.false

@@ -1,0 +1,62 @@
+use Prim.Native.Nat.{ℕ, ◌+◌, ◌-◌, ◌*◌, ◌<◌, ◌≤◌}
+use mathlib.Core.Path.{◌≡◌, sym, ◌∙◌, ap₂, subst}
+use mathlib.Core.Logic.{by_cases}
+use mathlib.Core.List.{List, ◌∷◌}
+use native.Mathlib.Omega.{arith}
+use native.Mathlib.Nat.{le-mul_of_pos_right}
+use native.Mathlib.Decide.{dec_le}
+use lib.ListN.{length, get_or}
+use Rattle.lists.proofs.Laws.Every.{get_d_mem}
+use Rattle.stored.specs.declared.layout.Layout.{Layout}
+use Rattle.stored.specs.Limits.{max_relations}
+use Rattle.stored.specs.Model.{Rel, no_relation, relation_at}
+use Rattle.stored.specs.Reading.{Reads, model_of}
+use Rattle.stored.proofs.Laws.Reading.{reads_formed, relations_is, few_relations, relation_there}
+use Rattle.rows.proofs.Laws.Rows.{Alike, as_many_relations, same_arity}
+use Rattle.rounds.specs.Board.{count_start, joined_at, joined_from, joined, cells_of, cells_on, colours_on, numbers_from, row_numbers_at, Listed, NumbersAt, Renumbered, Empty}
+use Rattle.rounds.proofs.Laws.Joined.{joined_even}
+use Rattle.rounds.proofs.Laws.Numbering.{joined_next, joined_end, joined_columns, joined_count, Numbering, numbering_none, numbering_all, still_listed, still_empty, relation_fits, numbering_more}
+use Rattle.rounds.proofs.numbers.number_cells.Invariants.{start, done, few, fits, small, few_rows, more}
+use Rattle.rounds.proofs.numbers.number_cells.Goals as goal
+
+pub loop-k-init : goal.loop-k-init
+loop-k-init c = let p = c.requires in start _ _ _ _ _ _ (p.0, p.1, p.2) p.3 p.4 p.5 p.6
+
+pub offset_bounds-in_left-k : goal.offset_bounds-in_left-k
+offset_bounds-in_left-k c = omega (arith, few _ _ _ _ _ _ _ _ _ c.loop-k.invariant c.loop-k-test.true)
+
+pub bounds-in_left-k : goal.bounds-in_left-k
+bounds-in_left-k c = few _ _ _ _ _ _ _ _ _ c.loop-k.invariant c.loop-k-test.true
+
+pub offset_bounds-in_left-k-in-loop-k : goal.offset_bounds-in_left-k-in-loop-k
+offset_bounds-in_left-k-in-loop-k c = omega (arith, few _ _ _ _ _ _ _ _ _ c.loop-k.invariant c.loop-k-test.true)
+
+pub bounds-in_left-k-in-loop-k : goal.bounds-in_left-k-in-loop-k
+bounds-in_left-k-in-loop-k c = few _ _ _ _ _ _ _ _ _ c.loop-k.invariant c.loop-k-test.true
+
+pub offset_bounds-in_right-k : goal.offset_bounds-in_right-k
+offset_bounds-in_right-k c = omega (arith, few _ _ _ _ _ _ _ _ _ c.loop-k.invariant c.loop-k-test.true)
+
+pub bounds-in_right-k : goal.bounds-in_right-k
+bounds-in_right-k c = few _ _ _ _ _ _ _ _ _ c.loop-k.invariant c.loop-k-test.true
+
+pub overflow_add-rows : goal.overflow_add-rows
+overflow_add-rows c = omega (arith, few_rows _ _ _ _ _ _ _ _ _ c.loop-k.invariant c.loop-k-test.true)
+
+pub number_relation-requires : goal.number_relation-requires
+number_relation-requires c = (still_listed _ _ _ _ _ _ c.loop-k.invariant.numbering, fits _ _ _ _ _ _ _ _ _ c.loop-k.invariant c.loop-k-test.true, still_empty _ _ _ _ _ _ c.loop-k.invariant.numbering)
+
+pub overflow_mul-at : goal.overflow_mul-at
+overflow_mul-at c = omega (arith, small _ _ _ _ _ _ _ _ _ c.loop-k.invariant c.loop-k-test.true)
+
+pub overflow_add-at : goal.overflow_add-at
+overflow_add-at c = omega (arith, small _ _ _ _ _ _ _ _ _ c.loop-k.invariant c.loop-k-test.true)
+
+pub loop-k-preserved : goal.loop-k-preserved
+loop-k-preserved c = more _ _ _ _ _ _ _ _ _ c.loop-k.invariant c.loop-k-test.true _ c.number_relation.ensures.numbers c.number_relation.ensures.kept
+
+pub shape_of-board : goal.shape_of-board
+shape_of-board c = c.loop-k.invariant.numbering.kept.length_kept
+
+pub returns : goal.returns
+returns c = record { numbers = done _ _ _ _ _ _ _ _ _ c.loop-k.invariant c.loop-k-test.false; kept = c.loop-k.invariant.numbering.kept }

@@ -1,0 +1,35 @@
+use Rattle.rows.proofs.inverse.one_to_one.Goals.{then-y+else-first_at-x, else-y}
+use Prim.Native.Nat.{ℕ, ◌+◌, ◌-◌, ◌<◌}
+use mathlib.Core.Path.{◌≡◌, sym, ◌∙◌}
+use mathlib.Core.Logic.{⊎_elim}
+use mathlib.Core.Bool.{false}
+use mathlib.Core.List.{List}
+use lib.Dec.{eqb}
+use lib.ListN.{length, get_or}
+use Rattle.lists.specs.First.{first_at}
+use Rattle.rows.specs.Maps.{alone, one_to_one}
+use Rattle.lists.proofs.Laws.Every.{get_d_inside}
+use Rattle.lists.proofs.Laws.Numbers.{UpFrom, up_from_lem, up_passed, up_failed, up_over}
+use Rattle.rows.proofs.Laws.Inverse.{alone_none, alone_first, alone_later}
+use Rattle.rows.proofs.inverse.one_to_one.Invariants.{none, more, stop}
+use Rattle.rows.proofs.inverse.one_to_one.Goals as goal
+
+pub loop-x-init : goal.loop-x-init
+loop-x-init c = up_from_lem _ _
+
+pub first_at-requires : goal.first_at-requires
+first_at-requires c = tt
+
+pub returns-then-first_at-x : goal.returns-then-first_at-x
+returns-then-first_at-x c = stop _ _ c.loop-x.invariant c.loop-x-test.true c.if-y.true _ c.first_at.ensures c.if-first_at-x.true
+
+pub loop-x-preserved : goal.loop-x-preserved
+loop-x-preserved c =
+    elim c.if-y.branch [
+      | then-y+else-first_at-x w ↦ more _ _ c.loop-x.invariant c.loop-x-test.true w.if-y.true _ w.first_at.ensures w.if-first_at-x.false
+      | else-y w ↦ none _ _ c.loop-x.invariant c.loop-x-test.true w.if-y.false
+    ]
+
+pub returns : goal.returns
+unfolding one_to_one
+returns c = up_over c.loop-x.invariant c.loop-x-test.false

@@ -1,0 +1,44 @@
+use Prim.Native.Nat.{ℕ, ◌<◌, ◌≤◌, ◌+◌, ◌-◌}
+use mathlib.Core.Path.{◌≡◌, sym, ◌∙◌}
+use mathlib.Core.Bool.{true, false}
+use mathlib.Core.List.{List}
+use native.Mathlib.Omega.{arith}
+use borrow.Author.Tests.{eq-eqb, ne_eqb}
+use lib.Dec.{eqb}
+use lib.ListN.{length, get_or}
+use Rattle.lists.specs.Order.{same_row}
+use Rattle.lists.proofs.Laws.Every.{pairwise_lengths, PairsFrom, pairs_from_lem, pairs_passed, pairs_failed, pairs_over}
+use Rattle.rows.specs.Rows.{through}
+use Rattle.rows.proofs.Laws.Rows.{length_through, get_d_through}
+use Rattle.rows.proofs.rows.agree.Invariants.{unequal, start, done, other_inside, stop, more}
+use Rattle.rows.proofs.rows.agree.Goals as goal
+
+pub returns-then-row-other : goal.returns-then-row-other
+returns-then-row-other c = unequal _ _ _ _ c.if-row-other.true
+
+pub loop-j-init : goal.loop-j-init
+loop-j-init c = start _ _ _ _ c.if-row-other.false
+
+pub bounds-other-j : goal.bounds-other-j
+bounds-other-j c = other_inside _ _ _ _ _ c.loop-j.invariant c.loop-j-test.true
+
+pub overflow_cast-entry : goal.overflow_cast-entry
+overflow_cast-entry c = omega (arith, c.type_inv.row c.loop-j.j)
+
+pub look-x-requires : goal.look-x-requires
+look-x-requires c = tt
+
+pub overflow_cast-other_entry : goal.overflow_cast-other_entry
+overflow_cast-other_entry c = omega (arith, c.type_inv.other c.loop-j.j)
+
+pub look-y-requires : goal.look-y-requires
+look-y-requires c = tt
+
+pub returns-then-x-y : goal.returns-then-x-y
+returns-then-x-y c = stop _ _ _ _ _ c.loop-j.invariant c.loop-j-test.true _ _ c.look-x.ensures c.look-y.ensures c.if-x-y.true
+
+pub loop-j-preserved : goal.loop-j-preserved
+loop-j-preserved c = more _ _ _ _ _ c.loop-j.invariant c.loop-j-test.true _ _ c.look-x.ensures c.look-y.ensures c.if-x-y.false
+
+pub returns : goal.returns
+returns c = done _ _ _ _ _ c.loop-j.invariant c.loop-j-test.false

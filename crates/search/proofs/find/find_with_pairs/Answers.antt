@@ -1,0 +1,23 @@
+-- `search::find::find_with_pairs` meets its contract: the files are refused, or find goes on with their models. Assumes nothing.
+use Rattle.rows.proofs.Laws.Files.{two_read, two_go_on, two_refused}
+use Rattle.search.specs.Find.{find_files}
+use Rattle.search.proofs.Laws.Outcome.{refuses, passes_on, by_numbers}
+use Rattle.search.proofs.find.find_with_pairs.Goals as goal
+
+pub find_models-requires : goal.find_models-requires
+find_models-requires c =
+    let both = two_read _ _ _ c.read_two-two.ensures c.in-Models.is in
+    (both.first_read, both.second_read)
+
+pub returns-in-Refused : goal.returns-in-Refused
+unfolding find_files
+returns-in-Refused c =
+    let it = by_numbers _ _ _ _ _ _ (refuses _ _ _ _ (two_refused _ _ _ c.read_two-two.ensures _ _ _ c.in-Refused.is)) in
+    record { answer = it.0; output = it.1.0; work = it.1.1 }
+
+pub returns-in-Models : goal.returns-in-Models
+unfolding find_files
+returns-in-Models c =
+    let on = two_go_on _ _ _ c.read_two-two.ensures _ _ c.in-Models.is in
+    let it = by_numbers _ _ _ _ _ _ (passes_on _ _ _ _ _ _ _ on (c.find_models.ensures.answer, (c.find_models.ensures.output, c.find_models.ensures.work))) in
+    record { answer = it.0; output = it.1.0; work = it.1.1 }

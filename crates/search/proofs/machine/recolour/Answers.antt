@@ -1,0 +1,17 @@
+-- `search::machine::recolour` meets its contract: the front of the lent work is handed on as the board, and comes back. Assumes nothing.
+use mathlib.Core.List.{◌++◌}
+use lib.ListN.{drop}
+use Rattle.rounds.specs.Board.{board_room}
+use Rattle.search.proofs.Laws.Refine.{rounded_sides, BoardBack, board_back, board_kept}
+use Rattle.search.proofs.machine.recolour.Goals as goal
+
+pub round-requires : goal.round-requires
+round-requires c =
+    let p = c.requires in
+    (p.0, p.1, p.2, p.3, p.5.1, p.5.2)
+
+pub shape_of-work : goal.shape_of-work
+shape_of-work c = ((board_back c.args.work.now c.round.new.board c.requires.4 c.round.auto.board)).long
+
+pub returns : goal.returns
+returns c = record { recoloured = rounded_sides _ _ _ _ c.round.ensures.recoloured; shape = c.round.ensures.shape; work = board_kept ((board_back c.args.work.now c.round.new.board c.requires.4 c.round.auto.board)) _ _ _ c.round.ensures.board }
