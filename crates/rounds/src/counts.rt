@@ -99,7 +99,7 @@ pub fn count_both(
     right_colours: &[u16],
 ) -> Balance
     requires { Reads left.now in_left × Reads right.now in_right × (length left_colours.now ≡ size (model_of left.now)) × (length right_colours.now ≡ size (model_of right.now)) × (are_small (colours_of (model_of left.now) left_colours.now) ≡ true) × (are_small (colours_of (model_of right.now) right_colours.now) ≡ true) }
-    ensures equal { result.equal ≡ equal_counts (model_of left.entry.now) (model_of right.now) (record { left = left_colours.now; right = right_colours.now }) }
+    ensures equal { result.equal ≡ equal_counts (model_of left.now) (model_of right.now) (record { left = left_colours.now; right = right_colours.now }) }
     ensures count { result.count ≡ colour_count (model_of left.now) left_colours.now }
     ensures table { CountsOf result.table (colours_of (model_of left.now) left_colours.now) }
 {

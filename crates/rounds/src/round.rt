@@ -75,7 +75,7 @@ fn recolour(
     board: &mut [u16],
 )
     requires { Reads left.now in_left × Reads right.now in_right × (same_signature (signature (model_of left.now)) (signature (model_of right.now)) ≡ true) × Board (model_of left.now) (model_of right.now) cells board.old × (length left_colours.old ≡ size (model_of left.now)) × (length right_colours.old ≡ size (model_of right.now)) }
-    ensures recoloured { record { left = left_colours.new; right = right_colours.new } ≡ rounds.round (model_of left.entry.now) (model_of right.now) (record { left = left_colours.old; right = right_colours.old }) }
+    ensures recoloured { record { left = left_colours.new; right = right_colours.new } ≡ rounds.round (model_of left.now) (model_of right.now) (record { left = left_colours.old; right = right_colours.old }) }
     ensures board { Board (model_of left.now) (model_of right.now) cells board.new }
 {
     prepare(
@@ -116,7 +116,7 @@ pub fn round(
     board: &mut [u16],
 ) -> Rows
     requires { Reads left.now in_left × Reads right.now in_right × (same_signature (signature (model_of left.now)) (signature (model_of right.now)) ≡ true) × Board (model_of left.now) (model_of right.now) cells board.old × (length (get_or colours 0 []) ≡ 64) × (length (get_or colours 1 []) ≡ 64) }
-    ensures recoloured { record { left = take (size (model_of left.entry.now)) (get_or result 0 []); right = take (size (model_of right.now)) (get_or result 1 []) } ≡ rounds.round (model_of left.entry.now) (model_of right.now) (record { left = take (size (model_of left.entry.now)) (get_or colours 0 []); right = take (size (model_of right.now)) (get_or colours 1 []) }) }
+    ensures recoloured { record { left = take (size (model_of left.now)) (get_or result 0 []); right = take (size (model_of right.now)) (get_or result 1 []) } ≡ rounds.round (model_of left.now) (model_of right.now) (record { left = take (size (model_of left.now)) (get_or colours 0 []); right = take (size (model_of right.now)) (get_or colours 1 []) }) }
     ensures shape { (length result ≡ 2) × (length (get_or result 0 []) ≡ 64) × (length (get_or result 1 []) ≡ 64) }
     ensures board { Board (model_of left.now) (model_of right.now) cells board.new }
 {

@@ -67,7 +67,7 @@ pub(crate) fn map_of(
     out: &mut [u8],
 )
     requires { Reads left.now in_left × Reads right.now in_right × (size (model_of left.now) ≤ length out.old) }
-    ensures { out.new ≡ over (map_of (model_of left.entry.now) (model_of right.now) (record { left = left_colours.now; right = right_colours.now })) out.old }
+    ensures { out.new ≡ over (map_of (model_of left.now) (model_of right.now) (record { left = left_colours.now; right = right_colours.now })) out.old }
 {
     let start = in_left.roots;
     let end = start + in_left.size;

@@ -123,7 +123,7 @@ fn weigh(
     depth: usize,
 ) -> Turn
     requires { Reads left.now in_left × Reads right.now in_right × (length row.now ≡ size (model_of left.now)) × (length other.now ≡ size (model_of right.now)) × (are_small (colours_of (model_of left.now) row.now) ≡ true) × (are_small (colours_of (model_of right.now) other.now) ≡ true) × (work_room ≤ length work.old) × (depth < max_elements) }
-    ensures weighed { Weighed (model_of left.entry.now) (model_of right.now) (record { left = row.now; right = other.now }) before (choices_on work.old) depth result.phase result.depth result.count (choices_on work.new) }
+    ensures weighed { Weighed (model_of left.now) (model_of right.now) (record { left = row.now; right = other.now }) before (choices_on work.old) depth result.phase result.depth result.count (choices_on work.new) }
     ensures kept { OnlyChoices work.old work.new }
 {
     let both = count_both(left, in_left, right, in_right, row, other);
@@ -259,7 +259,7 @@ fn first_colours(
     to_left: &[u8],
 ) -> Rows
     requires { Reads left.now in_left × Reads right.now in_right }
-    ensures colours { sides_in (model_of left.entry.now) (model_of right.now) result ≡ record { left = left_colours (model_of left.entry.now) to_right.now; right = right_colours (model_of right.now) (left_colours (model_of left.entry.now) to_right.now) to_left.now } }
+    ensures colours { sides_in (model_of left.now) (model_of right.now) result ≡ record { left = left_colours (model_of left.now) to_right.now; right = right_colours (model_of right.now) (left_colours (model_of left.now) to_right.now) to_left.now } }
     ensures shape { Rows result }
 {
     let n = in_left.size;
