@@ -146,7 +146,7 @@ module _ (a b : Model) (wa : WellFormed a) (wb : WellFormed b) (left_plain : can
       let j = first_at (eqb (image_by f x)) f in
       let low = first_at_some (eqb (image_by f x)) 255 f x l (eq-eqb (image_by f x) (image_by f x) refl) in
       let e : image_by f x ≡ image_by f j = eqb-true (image_by f x) (image_by f j) (first_at_passes (eqb (image_by f x)) 255 f (omega (arith, low, l))) in
-      w.isomorphism.one_to_one_lem j x (image_class j (λ z. n (e ∙ z))) (image_class x n) (sym e)
+      w.isomorphism.keeps_apart j x (image_class j (λ z. n (e ∙ z))) (image_class x n) (sym e)
 
   is_one_to_one : one_to_one f ≡ true
   is_one_to_one = sym (one_to_one_each f) ∙ mem_all (alone f) (up_from 0 (length f)) (λ x m. each x (omega (arith, (mem_up_from 0 (length f) x m).1)))

@@ -35,7 +35,7 @@ module _ (a b : Model) (h : ℕ → ℕ) where
   pub is_isomorphism : CarriesSets a b h → KeepsTypes a b h → Isomorphism a b h
   is_isomorphism c typed = record {
     to_class = c.to_rep;
-    one_to_one_lem = c.one_to_one_lem;
+    keeps_apart = c.keeps_apart;
     onto = c.onto;
     keeps_types = typed;
     rows_into = c.rows_into;
@@ -43,7 +43,7 @@ module _ (a b : Model) (h : ℕ → ℕ) where
   }
 
   pub carries_sets : Isomorphism a b h → CarriesSets a b h
-  carries_sets i = record { to_rep = i.to_class; one_to_one_lem = i.one_to_one_lem; onto = i.onto; rows_into = i.rows_into; rows_onto = i.rows_onto }
+  carries_sets i = record { to_rep = i.to_class; keeps_apart = i.keeps_apart; onto = i.onto; rows_into = i.rows_into; rows_onto = i.rows_onto }
 
   pub types_kept : Isomorphism a b h → KeepsTypes a b h
   types_kept i = i.keeps_types

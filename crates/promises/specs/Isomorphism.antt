@@ -9,7 +9,7 @@ use Rattle.rounds.specs.Round.{reps}
 -- "one to one and onto between the classes, keeps types .., and carries each relation exactly onto its counterpart"
 pub record Isomorphism (a b : Model) (h : ℕ → ℕ) : Type 0 where
   pub to_class : (x : ℕ) → Memᴰ x (reps a) → Memᴰ (h x) (reps b)
-  pub one_to_one_lem : (x y : ℕ) → Memᴰ x (reps a) → Memᴰ y (reps a) → h x ≡ h y → x ≡ y
+  pub keeps_apart : (x y : ℕ) → Memᴰ x (reps a) → Memᴰ y (reps a) → h x ≡ h y → x ≡ y
   pub onto : (y : ℕ) → Memᴰ y (reps b) → (x : ℕ) × Memᴰ x (reps a) × (h x ≡ y)
   pub keeps_types : (x : ℕ) → Memᴰ x (reps a) → type_of b (h x) ≡ type_of a x
   pub rows_into : (k : ℕ) (row : List ℕ) → Memᴰ row (relation_at a k).rows → Memᴰ (map h row) (relation_at b k).rows

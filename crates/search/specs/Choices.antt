@@ -106,7 +106,7 @@ pub record Reopened (b : Model) (w : List ℕ) (depth stay : ℕ) : Type 0 where
 
 -- the next candidate of the latest of so many open choices is looked at: the work and the colours before it and after it, and whether it has the choice's colour
 pub record Looked (b : Model) (n : ℕ) (w₀ : List ℕ) (depth : ℕ) (c₀ : List (List ℕ)) (w : List ℕ) (c : List (List ℕ)) (has : Bool) : Type 0 where
-  pub gone_on_lem : (a : Model) → size a ≡ n
+  pub has_gone_on : (a : Model) → size a ≡ n
       → choices_in a b w depth ≡ gone_on (choice_in a b w₀ (depth - 1)) (reps_from b (candidate_in b w₀ (depth - 1) + 1)) ∷ choices_in a b w₀ (depth - 1)
   pub tests : (a : Model) → has ≡ eqb (colour_at (choice_in a b w₀ (depth - 1)).sides.right (candidate_in b w₀ (depth - 1))) (choice_in a b w₀ (depth - 1)).old
   pub gives : has ≡ true → (a : Model) → size a ≡ n → sides_in a b c ≡ tried (choice_in a b w₀ (depth - 1)) (candidate_in b w₀ (depth - 1))

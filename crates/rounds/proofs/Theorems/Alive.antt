@@ -26,7 +26,7 @@ use Rattle.rounds.proofs.Theorems.Keys.{on_left, on_right, make_same, key_round}
 -- onto those of its counterpart up to order, where what stands in rows is a representative
 pub record Carries (a b : Model) (f : ℕ → ℕ) : Type 0 where
   pub to_rep : (x : ℕ) → Memᴰ x (reps a) → Memᴰ (f x) (reps b)
-  pub one_to_one_lem : (x y : ℕ) → Memᴰ x (reps a) → Memᴰ y (reps a) → f x ≡ f y → x ≡ y
+  pub keeps_apart : (x y : ℕ) → Memᴰ x (reps a) → Memᴰ y (reps a) → f x ≡ f y → x ≡ y
   pub onto : (y : ℕ) → Memᴰ y (reps b) → (x : ℕ) × Memᴰ x (reps a) × (f x ≡ y)
   pub rows_within : (k : ℕ) (row : List ℕ) → Memᴰ row (relation_at a k).rows → (y : ℕ) → Memᴰ y row → Memᴰ y (reps a)
   pub rows_carried : (k : ℕ) → Permᴰ (map (map f) (relation_at a k).rows) (relation_at b k).rows
@@ -140,7 +140,7 @@ reps_distinct m = keep_distinct (is_rep m) (up_from 0 (size m)) (up_from_distinc
 module _ (a b : Model) (f : ℕ → ℕ) (carries : Carries a b f) where
   -- the representatives go onto those of the other up to order
   pub reps_carried : Permᴰ (map f (reps a)) (reps b)
-  reps_carried = same_members (map f (reps a)) (reps b) (map_distinct f (reps a) carries.one_to_one_lem (reps_distinct a)) (reps_distinct b) to from
+  reps_carried = same_members (map f (reps a)) (reps b) (map_distinct f (reps a) carries.keeps_apart (reps_distinct a)) (reps_distinct b) to from
     where
       to : (y : ℕ) → Memᴰ y (map f (reps a)) → Memᴰ y (reps b)
       to y m = let r = mem_map f (reps a) y m in subst (λ (v : ℕ). Memᴰ v (reps b)) (sym r.2) (carries.to_rep r.0 r.1)
@@ -154,7 +154,7 @@ module _ (a b : Model) (f : ℕ → ℕ) (carries : Carries a b f) where
     unfolding key_of
     key_carried x m =
         make_same (key_of a c.left x) (key_of b c.right (f x)) (sym (agrees x m))
-        (λ e. relations_carried f c.left c.right (reps a) (record { one = carries.one_to_one_lem; agree = agrees }) (same_row e) x m 0 a.relations b.relations
+        (λ e. relations_carried f c.left c.right (reps a) (record { one = carries.keeps_apart; agree = agrees }) (same_row e) x m 0 a.relations b.relations
         (λ j. (carries.rows_within j, carries.rows_carried j)))
 
     -- so f agrees with the colours after the round

@@ -58,7 +58,7 @@ module _ (m : Model) (w : WellFormed m) where
 -- what `Carries` says, the rows of each relation compared as sets
 pub record CarriesSets (a b : Model) (f : ℕ → ℕ) : Type 0 where
   pub to_rep : (x : ℕ) → Memᴰ x (reps a) → Memᴰ (f x) (reps b)
-  pub one_to_one_lem : (x y : ℕ) → Memᴰ x (reps a) → Memᴰ y (reps a) → f x ≡ f y → x ≡ y
+  pub keeps_apart : (x y : ℕ) → Memᴰ x (reps a) → Memᴰ y (reps a) → f x ≡ f y → x ≡ y
   pub onto : (y : ℕ) → Memᴰ y (reps b) → (x : ℕ) × Memᴰ x (reps a) × (f x ≡ y)
   pub rows_into : (k : ℕ) (row : List ℕ) → Memᴰ row (relation_at a k).rows → Memᴰ (map f row) (relation_at b k).rows
   pub rows_onto : (k : ℕ) (row : List ℕ) → Memᴰ row (relation_at b k).rows → Memᴰ row (map (map f) (relation_at a k).rows)
@@ -72,9 +72,9 @@ module _ (a b : Model) (f : ℕ → ℕ) (left : WellFormed a) (right : WellForm
   pub sets_carry : Carries a b f
   sets_carry = record {
     to_rep = sets.to_rep;
-    one_to_one_lem = sets.one_to_one_lem;
+    keeps_apart = sets.keeps_apart;
     onto = sets.onto;
     rows_within = canonical_within a left plain;
     rows_carried = λ k.
-        same_members (map (map f) (relation_at a k).rows) (relation_at b k).rows (images_distinct a left plain f sets.one_to_one_lem k) (rows_distinct b right k) (image_there k) (sets.rows_onto k);
+        same_members (map (map f) (relation_at a k).rows) (relation_at b k).rows (images_distinct a left plain f sets.keeps_apart k) (rows_distinct b right k) (image_there k) (sets.rows_onto k);
   }

@@ -425,7 +425,7 @@ module _ {b : Model} {w : List ℕ} {depth n y : ℕ} (u : Look b w depth n y) w
 
   pub looked_other : (c : List (List ℕ)) → (get_or stored (base + 64 + y) 0 ≡ get_or stored (base + 129) 0 → ⊥) → Looked b n w depth c stored c false
   looked_other c ne = record {
-    gone_on_lem = look_gone;
+    has_gone_on = look_gone;
     tests = λ a. sym (ap (λ (z : ℕ). eqb z (choice_in a b w (depth - 1)).old) (look_colour a) ∙ ap (eqb (get_or stored (base + 64 + y) 0)) (look_old a) ∙ ne_eqb _ _ ne);
     gives = λ e. let z : ◌≡◌ {A = ℕ} 0 1 = cc in absurd (omega arith);
     long = λ e. let z : ◌≡◌ {A = ℕ} 0 1 = cc in absurd (omega arith);
@@ -442,7 +442,7 @@ module _ {b : Model} {w : List ℕ} {depth n y : ℕ} (u : Look b w depth n y) w
 
     pub looked_same : get_or stored (base + 64 + y) 0 ≡ get_or stored (base + 129) 0 → Looked b n w depth c stored (l ∷ r ∷ []) true
     looked_same q = record {
-      gone_on_lem = look_gone;
+      has_gone_on = look_gone;
       tests = λ a. sym (ap (λ (z : ℕ). eqb z (choice_in a b w (depth - 1)).old) (look_colour a) ∙ ap (eqb (get_or stored (base + 64 + y) 0)) (look_old a) ∙ eq-eqb _ _ q);
       gives = λ _ a e. sides_are a e ∙ ap (tried (choice_in a b w (depth - 1))) u.is;
       long = λ _. (refl, left_is.1, right_is.1);
@@ -476,13 +476,13 @@ module _ (a b : Model) (w₀ : List ℕ) (depth : ℕ) (some : 1 ≤ depth) (goe
         next_tried
         ∙ ap (takes 1) (try_same latest candidate (reps_from b (candidate + 1)) (choices_in a b w₀ (depth - 1)) (sym (l.tests a)))
         ∙ ap (λ (s : Sides). takes 1 (refine s (gone_on latest (reps_from b (candidate + 1)) ∷ choices_in a b w₀ (depth - 1)))) (sym (l.gives refl a long))
-        ∙ ap (λ (choices : List Choice). takes 1 (refine (sides_in a b c) choices)) (sym (l.gone_on_lem a long))
+        ∙ ap (λ (choices : List Choice). takes 1 (refine (sides_in a b c) choices)) (sym (l.has_gone_on a long))
 
     pub next_other : Looked b n w₀ depth c₀ w c false → next_choice (choices_in a b w₀ depth) ≡ takes 1 (choose (choices_in a b w depth))
     next_other l =
         next_tried
         ∙ ap (takes 1) (try_other latest candidate (reps_from b (candidate + 1)) (choices_in a b w₀ (depth - 1)) (sym (l.tests a)))
-        ∙ ap (λ (choices : List Choice). takes 1 (choose choices)) (sym (l.gone_on_lem a long))
+        ∙ ap (λ (choices : List Choice). takes 1 (choose choices)) (sym (l.has_gone_on a long))
 
 -- no open choice: the search ends
 pub next_none : (a b : Model) (w : List ℕ) → next_choice (choices_in a b w 0) ≡ nowhere

@@ -334,7 +334,7 @@ module _ {s t : List ℕ} {l m : Layout} {cells : ℕ} {start : List (List ℕ)}
           let latest = choice_in a b (choices_on work) (stay - 1) in
           let size_same = sym (size_is s l r.reads) in
           let kept : get_or w ((stay - 1) * choice_length + 130) 0 ≡ latest.new =
-          sym (newest_in a b w stay least) ∙ ap newest (k.gone_on_lem a size_same) ∙ newest_gone latest _ _ in
+          sym (newest_in a b w stay least) ∙ ap newest (k.has_gone_on a size_same) ∙ newest_gone latest _ _ in
           let more : colour_count a (sides_in a b colours').left ≡ suc latest.new =
           ap (λ (c : Sides). colour_count a c.left) (k.gives h a size_same) ∙ trial_count a b latest _ latest_risen.opened in
           record { counted = λ _. omega (arith, e, kept, more) }

@@ -53,9 +53,9 @@ module _ (a b : Model) where
   open_at_most [] h = omega arith
   open_at_most (e ∷ choices) h = omega (arith, open_fewer e choices h)
 
-  gone_on_lem : (e : Choice) (y : ℕ) (ys : List ℕ) (choices : List Choice) → Risen e choices → e.rest ≡ y ∷ ys → Risen (gone_on e ys) choices
+  has_gone_on : (e : Choice) (y : ℕ) (ys : List ℕ) (choices : List Choice) → Risen e choices → e.rest ≡ y ∷ ys → Risen (gone_on e ys) choices
   unfolding gone_on
-  gone_on_lem e y ys choices h q = record { opened = still_opened a b e y ys h.opened q; some = h.some; fewer = h.fewer; above = h.above }
+  has_gone_on e y ys choices h q = record { opened = still_opened a b e y ys h.opened q; some = h.some; fewer = h.fewer; above = h.above }
 
   just_risen :
       (c d : Sides) (k : ℕ) (choices : List Choice) → Above (colour_count a c.left) choices → round_outcome a b c ≡ stable d → smallest_open a d.left ≡ open_at k
@@ -89,8 +89,8 @@ module _ (a b : Model) where
     closing_passes = λ c choices h e. tt;
     closing_fails = λ c choices h e. h;
     used_up = λ e choices h q. h.1;
-    tries = λ e y ys choices h q t. (trial_above e y ys choices h.0.opened, (gone_on_lem e y ys choices h.0 q, h.1));
-    passes_by = λ e y ys choices h q t. (gone_on_lem e y ys choices h.0 q, h.1);
+    tries = λ e y ys choices h q t. (trial_above e y ys choices h.0.opened, (has_gone_on e y ys choices h.0 q, h.1));
+    passes_by = λ e y ys choices h q t. (has_gone_on e y ys choices h.0 q, h.1);
   }
 
   -- of every state reached from colours with no open choice

@@ -53,12 +53,12 @@ module _ (a b : Model) (h : ℕ → ℕ) (carries : Carries a b h) where
 module _ (a b : Model) (wa : WellFormed a) (wb : WellFormed b) (pairs : List ℕ) (good : AllGood a b pairs) where
   pub honours_once :
       (h : ℕ → ℕ) → ((x y : ℕ) → Memᴰ x (reps a) → Memᴰ y (reps a) → h x ≡ h y → x ≡ y) → Honours a b pairs h → PairedTwice a b pairs (pair_count pairs) → ⊥
-  honours_once h one_to_one_lem honours t = by_side t.clashing
+  honours_once h keeps_apart honours t = by_side t.clashing
     where
       by_side : Clashing a b pairs t.one t.other → ⊥
       by_side (inl p) = p.1 (sym (honours t.one t.one_within) ∙ ap h p.0 ∙ honours t.other t.other_within)
       by_side (inr p) =
-          p.1 (one_to_one_lem (named a pairs t.one) (named a pairs t.other) (named_rep a b wa wb pairs good t.one t.one_within) (named_rep a b wa wb pairs good t.other t.other_within)
+          p.1 (keeps_apart (named a pairs t.one) (named a pairs t.other) (named_rep a b wa wb pairs good t.one t.one_within) (named_rep a b wa wb pairs good t.other t.other_within)
           (honours t.one t.one_within ∙ p.0 ∙ sym (honours t.other t.other_within)))
 
 module _ (a b : Model) (wa : WellFormed a) (wb : WellFormed b) (plain : canonical a ≡ true) (pairs : List ℕ) (h : ℕ → ℕ) (wanted : Wanted a b pairs h) where
@@ -77,7 +77,7 @@ module _ (a b : Model) (wa : WellFormed a) (wb : WellFormed b) (plain : canonica
 
   module _ (good : AllGood a b pairs) where
     pub no_clash : partners_of a b pairs ≡ clash → ⊥
-    no_clash e = honours_once a b wa wb pairs good h its_carries.one_to_one_lem wanted.honours (clash_twice a b wa wb pairs good e)
+    no_clash e = honours_once a b wa wb pairs good h its_carries.keeps_apart wanted.honours (clash_twice a b wa wb pairs good e)
 
     pub searched_never : (budget u : ℕ) → searched a b budget (partners_of a b pairs) ≡ none u → ⊥
     searched_never budget u e = by_partners (partners_of a b pairs) refl

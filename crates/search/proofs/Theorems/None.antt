@@ -179,7 +179,7 @@ module _ (a b : Model) (f : ℕ → ℕ) (carries : Carries a b f) where
 
       other : (x ≡ e.element → ⊥) → Same x
       other d =
-          get_or-set_other e.sides.right (f e.element) (f x) e.new no_colour (λ q. d (carries.one_to_one_lem x e.element m h.its_rep q))
+          get_or-set_other e.sides.right (f e.element) (f x) e.new no_colour (λ q. d (carries.keeps_apart x e.element m h.its_rep q))
           ∙ h.agrees x m
           ∙ sym (get_or-set_other e.sides.left e.element x e.new no_colour d)
 

@@ -118,7 +118,7 @@ module _ (a b : Model) (relations_fit : length b.relations ≤ length a.relation
     at_alias = map_alias a b c;
     carries = record {
       to_rep = map_to_rep a b c matching;
-      one_to_one_lem = map_one_to_one a b c matching;
+      keeps_apart = map_one_to_one a b c matching;
       onto = map_onto a b c matching;
       rows_into = closes_into a b (map_of a b c) passed;
       rows_onto = closes_onto a b (map_of a b c) passed relations_fit;

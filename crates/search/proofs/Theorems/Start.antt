@@ -56,14 +56,14 @@ module _ (a b : Model) (wa : WellFormed a) (wb : WellFormed b) (pairs : List ℕ
   module _ (f g : List ℕ) (matched : Matched a b pairs (pair_count pairs) f g) where
     -- a function that keeps types and honours the pairs agrees with the first colours
     module _ (h : ℕ → ℕ) (to_rep : (x : ℕ) → Memᴰ x (reps a) → Memᴰ (h x) (reps b))
-        (one_to_one_lem : (x y : ℕ) → Memᴰ x (reps a) → Memᴰ y (reps a) → h x ≡ h y → x ≡ y) (typed : KeepsTypes a b h) (honours : Honours a b pairs h) where
+        (keeps_apart : (x y : ℕ) → Memᴰ x (reps a) → Memᴰ y (reps a) → h x ≡ h y → x ≡ y) (typed : KeepsTypes a b h) (honours : Honours a b pairs h) where
       image_free : (x : ℕ) → Memᴰ x (reps a) → get_or f x 255 ≡ 255 → get_or g (h x) 255 ≡ 255
       image_free x m e = by_cases (ℕ_discrete (get_or g (h x) 255) 255) (λ z. z) taken
         where
           taken : (get_or g (h x) 255 ≡ 255 → ⊥) → get_or g (h x) 255 ≡ 255
           taken n =
               let o = matched.right_from_lem (h x) n in
-              let s : x ≡ named a pairs o.0 = one_to_one_lem x (named a pairs o.0) m (named_rep o.0 o.1) (o.2 ∙ sym (honours o.0 o.1)) in
+              let s : x ≡ named a pairs o.0 = keeps_apart x (named a pairs o.0) m (named_rep o.0 o.1) (o.2 ∙ sym (honours o.0 o.1)) in
               absurd (meant_is_known a b wa wb pairs o.0 (good o.0 o.1) (sym (matched.to_meant o.0 o.1) ∙ ap (λ (v : ℕ). get_or f v 255) (sym s) ∙ e))
 
       image_paired : (x : ℕ) → (get_or f x 255 ≡ 255 → ⊥) → get_or g (h x) 255 ≡ x
@@ -149,7 +149,7 @@ module _ (a b : Model) (wa : WellFormed a) (wb : WellFormed b) (pairs : List ℕ
 
     -- both for a function that carries
     pub carries_agrees : (h : ℕ → ℕ) → Carries a b h → KeepsTypes a b h → Honours a b pairs h → Agrees a h (first_sides a b f g)
-    carries_agrees h c = agrees_first h c.to_rep c.one_to_one_lem
+    carries_agrees h c = agrees_first h c.to_rep c.keeps_apart
 
     pub agrees_carries : length a.sizes ≡ length b.sizes → (h : ℕ → ℕ) → Carries a b h → Agrees a h (first_sides a b f g) → KeepsTypes a b h × Honours a b pairs h
     agrees_carries t h c agrees = (first_typed t h c.to_rep agrees, first_honours t h c.to_rep agrees)

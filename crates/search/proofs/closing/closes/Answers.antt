@@ -38,7 +38,7 @@ loop-k-init c =
     record {
       alike = (p.0, p.1, p.4);
       models = record { left_formed = reads_formed _ _ p.0; right_formed = reads_formed _ _ p.1; left_plain = p.2; right_plain = p.3; one_signature = p.4; are_alike = p.5 };
-      one_to_one_lem = p.6;
+      keeps_apart = p.6;
       from = up_from_lem _ _;
     }
 

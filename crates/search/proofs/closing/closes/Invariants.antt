@@ -30,7 +30,7 @@ use Rattle.search.proofs.closing.closes.Given as goal
 pub record Passed (s t f : List ℕ) (l m : Layout) (k : ℕ) : Type 0 where
   pub alike : Alike s t l m
   pub models : AlikeModels (model_of s) (model_of t)
-  pub one_to_one_lem : OneToOne (model_of s) f
+  pub keeps_apart : OneToOne (model_of s) f
   pub from : UpFrom (closes_at (model_of s) (model_of t) f) (length (model_of s).relations) k
 
 module _ (s t f : List ℕ) (l m : Layout) (k : ℕ) (i : Passed s t f l m k) where
@@ -85,8 +85,8 @@ module _ (s t f : List ℕ) (l m : Layout) (k : ℕ) (i : Passed s t f l m k) wh
       more q = record {
         alike = i.alike;
         models = i.models;
-        one_to_one_lem = i.one_to_one_lem;
-        from = up_passed i.from inside (into_closes (model_of s) (model_of t) f k i.models i.one_to_one_lem (is_into ∙ q));
+        keeps_apart = i.keeps_apart;
+        from = up_passed i.from inside (into_closes (model_of s) (model_of t) f k i.models i.keeps_apart (is_into ∙ q));
       }
 
 abbrev pub invariant-loop-k : goal.invariant-loop-k
