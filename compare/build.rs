@@ -50,10 +50,11 @@ fn library_at(top: &Path) -> PathBuf {
     if let Ok(folder) = env::var("BIZAKOMA_LIB") {
         return PathBuf::from(folder);
     }
-    let folder = top.join("target/staticlib");
+    let crate_folder = top.join("crates/bizakoma");
+    let folder = crate_folder.join("out");
     if !folder.join("libbizakoma.a").exists() {
-        let made = Command::new("rt").args(["staticlib", "bizakoma"]).current_dir(top).status();
-        assert!(made.expect("rt is not to be found").success(), "rt staticlib bizakoma failed");
+        let made = Command::new("rt").arg("lib").current_dir(crate_folder).status();
+        assert!(made.expect("rt is not to be found").success(), "rt lib failed in crates/bizakoma");
     }
     folder
 }

@@ -3,8 +3,8 @@
 
     python3 examples/answer.py [PROGRAM]
 
-For each job in prescription/ it prints the line of the program and what it says in words. Without PROGRAM it takes target/bin/job, and builds it
-if it is not there.
+For each job in prescription/ it prints the line of the program and what it says in words. Without PROGRAM it takes crates/job/out/job, and
+builds it if it is not there.
 """
 import os
 import sys

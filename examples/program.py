@@ -5,21 +5,23 @@ import sys
 
 HERE = os.path.dirname(os.path.abspath(__file__))
 ROOT = os.path.dirname(HERE)
-BUILT = os.path.join(ROOT, "target", "bin", "job")
+CRATE = os.path.join(ROOT, "crates", "job")
+BUILT = os.path.join(CRATE, "out", "job")
 
 
 def built():
     """The path of the program, which is built if it is not there."""
     if not os.path.exists(BUILT):
-        print("building the program: rt check job", file=sys.stderr)
+        print("building the program: rt run in crates/job", file=sys.stderr)
         try:
-            subprocess.run(["rt", "check", "job"], cwd=ROOT, stdout=sys.stderr, check=True)
+            # It is also run, on an empty input; its line says nothing here.
+            subprocess.run(["rt", "run"], cwd=CRATE, stdin=subprocess.DEVNULL, stdout=subprocess.DEVNULL, check=True)
         except FileNotFoundError:
             sys.exit("rt, the toolchain's command, is not there")
         except subprocess.CalledProcessError:
-            sys.exit("rt check job failed")
+            sys.exit("rt run failed in crates/job")
         if not os.path.exists(BUILT):
-            sys.exit("rt check job left no target/bin/job: remove target/ and try again")
+            sys.exit("rt run left no crates/job/out/job: remove crates/job/out and try again")
     return BUILT
 
 

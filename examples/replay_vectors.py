@@ -4,7 +4,7 @@
     python3 examples/replay_vectors.py VECTORS [PROGRAM]
 
 A job line is `job INPUT => LINE`, the input in hex, `_` where it is empty; lines of other calls are passed over. Without PROGRAM it takes
-target/bin/job, and builds it if it is not there. Exit status 0 if every line is as stated.
+crates/job/out/job, and builds it if it is not there. Exit status 0 if every line is as stated.
 """
 import sys
 

@@ -3,7 +3,7 @@
 
     python3 examples/run_jobs.py [PROGRAM]
 
-Without PROGRAM it takes target/bin/job, and builds it if it is not there. Exit status 0 if every line is as expected.
+Without PROGRAM it takes crates/job/out/job, and builds it if it is not there. Exit status 0 if every line is as expected.
 """
 import sys
 

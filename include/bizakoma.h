@@ -1,4 +1,4 @@
-/* Maps and isomorphisms of finite models, for C and C++. Link with libbizakoma.a (`rt staticlib bizakoma`), for x86-64 Linux.
+/* Maps and isomorphisms of finite models, for C and C++. Link with libbizakoma.a (`rt lib` in crates/bizakoma), for x86-64 Linux.
  *
  * A model is stored as fields. Each is a one-byte tag, a two-byte length (high byte first) and a value, in this order, with nothing after:
  *   Types, tag 1      one byte for each type, its number of elements. Elements are numbered from 0, type by type; n is their sum.

@@ -5,12 +5,12 @@ set -eu
 top=$(cd "$(dirname "$0")/.." && pwd)
 made=$(mktemp -d)
 trap 'rm -rf "$made"' EXIT
-library=$top/target/staticlib/libbizakoma.a
+library=$top/crates/bizakoma/out/libbizakoma.a
 warnings='-Wall -Wextra -Wpedantic -Wshadow -Wconversion -Werror'
 
 # whether the library is there and no source is newer
-fresh() { [ -f "$library" ] && [ -z "$(find "$top/crates.txt" "$top/crates" -newer "$library" \( -name '*.rt' -o -name '*.antt' -o -name crates.txt \))" ]; }
-fresh || (cd "$top" && rt staticlib bizakoma >"$made/log" 2>&1) || { cat "$made/log"; exit 1; }
+fresh() { [ -f "$library" ] && [ -z "$(find "$top/crates.txt" "$top/crates" -name out -prune -o -newer "$library" \( -name '*.rt' -o -name '*.antt' -o -name crates.txt \) -print)" ]; }
+fresh || (cd "$top/crates/bizakoma" && rt lib >"$made/log" 2>&1) || { cat "$made/log"; exit 1; }
 
 as_c() { ${CC:-cc} -std=c99 $warnings -Wstrict-prototypes -Wmissing-prototypes -I"$top/include" "$@"; }
 as_cpp() { ${CXX:-c++} -std=c++17 $warnings -I"$top/include" -x c++ "$@"; }

@@ -1,4 +1,4 @@
-//! Links libbizakoma.a. Where it is not there, or a source of it is newer, `rt staticlib bizakoma` makes it at the repository's top, which proves it
+//! Links libbizakoma.a. Where it is not there, or a source of it is newer, `rt lib` makes it in `crates/bizakoma` of the repository, which proves it
 //! first. `BIZAKOMA_LIB_DIR` names a folder that holds the library already; then nothing is made.
 use std::env;
 use std::fs;
@@ -31,9 +31,10 @@ fn changed(path: &Path) -> Option<SystemTime> {
     fs::metadata(path).and_then(|data| data.modified()).ok()
 }
 
-/// Makes the library at the repository's top, where it is not newer than its sources, and gives its folder.
+/// Makes the library in its crate's folder, where it is not newer than its sources, and gives its folder.
 fn make(top: &Path) -> PathBuf {
-    let folder = top.join("target").join("staticlib");
+    let crate_folder = top.join("crates").join("bizakoma");
+    let folder = crate_folder.join("out");
     let library = folder.join("libbizakoma.a");
     let files = sources(top);
     for file in &files {
@@ -42,10 +43,10 @@ fn make(top: &Path) -> PathBuf {
     println!("cargo:rerun-if-changed={}", library.display());
     let made = changed(&library);
     if made.is_none() || files.iter().any(|file| changed(file) > made) {
-        let status = Command::new("rt").args(["staticlib", "bizakoma"]).current_dir(top).status();
+        let status = Command::new("rt").arg("lib").current_dir(&crate_folder).status();
         match status {
             Ok(status) if status.success() => {}
-            Ok(status) => panic!("`rt staticlib bizakoma` failed: {status}"),
+            Ok(status) => panic!("`rt lib` failed in crates/bizakoma: {status}"),
             Err(error) => {
                 panic!("`rt` is not to be run ({error}): install the Rattle kit, or set BIZAKOMA_LIB_DIR to a folder with libbizakoma.a")
             }
