@@ -2,9 +2,7 @@
 use Rattle.std.specs.Prelude.{ℕ, zero, suc, ◌-◌, true, false, ◌&&◌, List, [], ◌∷◌, length, eqb}
 use Rattle.lists.specs.Part.{part}
 use Rattle.stored.specs.declared.refusal.Fault.{Fault}
-use Rattle.stored.specs.declared.field.Next.{Next}
 use Rattle.stored.specs.declared.field.Next.TheVariants as next
-use Rattle.stored.specs.declared.relation.Head.{Head}
 use Rattle.stored.specs.declared.relation.Head.TheVariants as head
 use Rattle.stored.specs.declared.read.Item.{Item}
 use Rattle.stored.specs.declared.read.Item.TheVariants as item

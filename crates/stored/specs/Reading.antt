@@ -3,7 +3,6 @@ use Rattle.std.specs.Prelude.{◌≡◌, ℕ, ◌+◌, List, [], length}
 use Rattle.lists.specs.Numbers.{sum}
 use Rattle.stored.specs.declared.refusal.Fault.{Fault}
 use Rattle.stored.specs.declared.layout.Layout.{Layout}
-use Rattle.stored.specs.declared.read.Item.{Item}
 use Rattle.stored.specs.declared.read.Item.TheVariants as item
 use Rattle.stored.specs.declared.read.Answer.TheVariants as answer
 use Rattle.stored.specs.declared.read.Reading.{Reading}

@@ -1,6 +1,6 @@
 -- Counts: after a round a side has no fewer colours than before; where the counts are equal, the left colours after it are 0, 1, .. without a gap, as
 -- many as the palette has keys. Assumes nothing.
-use Prim.Native.Nat.{ℕ, ◌+◌, ◌<◌, ◌≤◌, zero-le}
+use Prim.Native.Nat.{ℕ, ◌<◌, ◌≤◌, zero-le}
 use mathlib.Core.Path.{◌≡◌, refl, sym, ◌∙◌, ap, subst}
 use mathlib.Core.Logic.{◌⊎◌, inl, inr}
 use mathlib.Core.Bool.{true}

@@ -4,7 +4,6 @@ use mathlib.Core.Path.{◌≡◌, refl, sym}
 use mathlib.Core.List.{List}
 use Rattle.lists.specs.Part.{over}
 use Rattle.stored.specs.declared.refusal.Refusal.{Refusal}
-use Rattle.rows.specs.declared.answer.Answer.{Answer}
 use Rattle.rows.specs.declared.answer.Answer.TheVariants as answer
 use Rattle.rows.specs.Answer.{Outcome, accepted, none, refused, answer_of, written}
 

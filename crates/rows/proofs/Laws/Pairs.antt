@@ -14,7 +14,6 @@ use Rattle.stored.specs.declared.refusal.Refusal.{Refusal}
 use Rattle.stored.specs.declared.refusal.Refusal.TheVariants.{UnknownElement, TypesDiffer, ConflictingImages}
 use Rattle.stored.specs.Types.{type_in}
 use Rattle.stored.specs.Model.{Model, root_of}
-use Rattle.rows.specs.declared.pairs.Pair.{Pair}
 use Rattle.rows.specs.declared.pairs.Pair.TheVariants as pair
 use Rattle.rows.specs.Pairs.{pair_count, left_at, right_at, pair_in, pair_at, images, refused, conflicts, give_from, given_by}
 

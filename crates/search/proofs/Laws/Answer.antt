@@ -8,7 +8,6 @@ use Rattle.lists.specs.Part.{over}
 use Rattle.stored.specs.declared.refusal.Refusal.{Refusal}
 use Rattle.stored.specs.declared.refusal.Refusal.TheVariants.{Malformed, NoRoom, NotCanonical, SignaturesDiffer, UnknownElement, TypesDiffer, ImageMissing, ConflictingImages, RelationNotKept, NotAMap, OddPairs}
 use Rattle.stored.specs.Refusal as refusal
-use Rattle.search.specs.declared.answer.Answer.TheVariants as answer
 use Rattle.search.specs.Machine.{found, none, exhausted}
 use Rattle.search.specs.Answer.{numbers, Outcome, ended, refused, answer_of, written}
 

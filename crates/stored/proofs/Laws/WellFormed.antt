@@ -18,7 +18,6 @@ use Rattle.lists.proofs.Laws.Every.{all_mem}
 use Rattle.lists.proofs.Laws.Numbers.{up_from_mem}
 use Rattle.lists.proofs.Laws.Part.{length_part, drop-part, take_part, length-rows_of, rows_of_front}
 use Rattle.stored.specs.declared.field.Cursor.{Cursor}
-use Rattle.stored.specs.declared.field.Next.TheVariants as next
 use Rattle.stored.specs.declared.read.Item.{Item}
 use Rattle.stored.specs.declared.read.Item.TheVariants as item
 use Rattle.stored.specs.Limits.{max_types, max_elements, max_relations, max_arity, max_cells}

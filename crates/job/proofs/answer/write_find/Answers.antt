@@ -1,6 +1,5 @@
 -- `job::answer::write_find` meets its contract: what find answers, and the first entries of its output. Assumes nothing.
 use native.Mathlib.Omega.{arith}
-use Rattle.io.specs.Counts.{IsPrefixLen}
 use Rattle.job.proofs.Laws.Line.{added_as}
 use Rattle.job.proofs.Laws.Found.{first_entries, line_of_find}
 use Rattle.job.proofs.answer.write_find.Goals as goal

@@ -1,8 +1,7 @@
-use Prim.Native.Nat.{◌-◌}
 use mathlib.Core.Path.{refl}
 use native.Mathlib.Omega.{arith}
-use lib.ListN.{length, get_or}
-use Rattle.job.proofs.Laws.Job.{Numbered, numbered_none, next_fits, numbered_more, numbered_all}
+use lib.ListN.{get_or}
+use Rattle.job.proofs.Laws.Job.{numbered_none, next_fits, numbered_more, numbered_all}
 use Rattle.job.proofs.job.number.Goals as goal
 
 pub loop-i-init : goal.loop-i-init

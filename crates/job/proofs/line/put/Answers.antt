@@ -1,8 +1,6 @@
-use Prim.Native.Nat.{◌-◌}
 use mathlib.Core.Path.{refl}
 use native.Mathlib.Omega.{arith}
-use lib.ListN.{length}
-use Rattle.job.proofs.Laws.Line.{Putting, putting_none, putting_more, putting_all}
+use Rattle.job.proofs.Laws.Line.{putting_none, putting_more, putting_all}
 use Rattle.job.proofs.line.put.Goals as goal
 
 pub loop-i-init : goal.loop-i-init

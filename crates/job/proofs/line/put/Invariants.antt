@@ -1,9 +1,7 @@
 -- `job::line::put` meets its contract. The invariant is `Putting`; the measure is the number of bytes left. Assumes nothing.
 use Prim.Native.Nat.{◌-◌}
-use mathlib.Core.Path.{refl}
-use native.Mathlib.Omega.{arith}
 use lib.ListN.{length}
-use Rattle.job.proofs.Laws.Line.{Putting, putting_none, putting_more, putting_all}
+use Rattle.job.proofs.Laws.Line.{Putting}
 use Rattle.job.proofs.line.put.Given as goal
 
 abbrev pub invariant-loop-i : goal.invariant-loop-i

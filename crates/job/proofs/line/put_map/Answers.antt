@@ -1,8 +1,6 @@
-use Prim.Native.Nat.{◌-◌}
 use mathlib.Core.Path.{refl}
 use native.Mathlib.Omega.{arith}
-use lib.ListN.{length}
-use Rattle.job.proofs.Laws.Line.{Mapping, mapping_none, mapping_room, mapping_more, mapping_all}
+use Rattle.job.proofs.Laws.Line.{mapping_none, mapping_room, mapping_more, mapping_all}
 use Rattle.job.proofs.line.put_map.Goals as goal
 
 pub loop-i-init : goal.loop-i-init

@@ -1,9 +1,7 @@
 -- `job::line::put_map` meets its contract. The invariant is `Mapping`; the measure is the number of entries left. Assumes nothing.
 use Prim.Native.Nat.{◌-◌}
-use mathlib.Core.Path.{refl}
-use native.Mathlib.Omega.{arith}
 use lib.ListN.{length}
-use Rattle.job.proofs.Laws.Line.{Mapping, mapping_none, mapping_room, mapping_more, mapping_all}
+use Rattle.job.proofs.Laws.Line.{Mapping}
 use Rattle.job.proofs.line.put_map.Given as goal
 
 abbrev pub invariant-loop-i : goal.invariant-loop-i

@@ -1,5 +1,5 @@
-use Prim.Native.Nat.{◌≤◌, ◌-◌, ◌/◌}
-use mathlib.Core.Path.{◌≡◌, sym}
+use Prim.Native.Nat.{◌≤◌}
+use mathlib.Core.Path.{sym}
 use native.Mathlib.Omega.{arith}
 use lib.ListN.{length}
 use lib.Seq.{length-take-le}

@@ -1,10 +1,8 @@
 -- `reading_cases::hex::decode` meets its contract. The invariant: no more bytes were written than half the digits, and the buffer keeps its length; the
 -- measure is the number of bytes left. Assumes nothing.
 use Prim.Native.Nat.{◌≤◌, ◌-◌, ◌/◌}
-use mathlib.Core.Path.{◌≡◌, sym}
-use native.Mathlib.Omega.{arith}
+use mathlib.Core.Path.{◌≡◌}
 use lib.ListN.{length}
-use lib.Seq.{length-take-le}
 use Rattle.reading_cases.proofs.hex.decode.Given as goal
 
 abbrev pub invariant-loop-n : goal.invariant-loop-n

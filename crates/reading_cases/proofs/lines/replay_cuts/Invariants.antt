@@ -1,9 +1,7 @@
 -- `reading_cases::lines::replay_cuts` is safe and ends. The invariant: a cut is at most the whole; the measure is the number of cuts left. Assumes
 -- nothing.
 use Prim.Native.Nat.{◌≤◌, ◌-◌}
-use mathlib.Core.Path.{sym}
 use lib.ListN.{length}
-use lib.Seq.{length-take-le}
 use Rattle.reading_cases.proofs.lines.replay_cuts.Given as goal
 
 abbrev pub invariant-loop-n : goal.invariant-loop-n

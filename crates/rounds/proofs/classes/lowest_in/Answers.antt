@@ -1,16 +1,5 @@
 use Rattle.rounds.proofs.classes.lowest_in.Goals.{then-colour_at-k+else-is_rep, else-colour_at-k}
-use Prim.Native.Nat.{ℕ, ◌+◌, ◌-◌, ◌<◌}
-use mathlib.Core.Path.{◌≡◌, sym, ◌∙◌}
-use mathlib.Core.Logic.{⊎_elim}
-use mathlib.Core.Bool.{Bool, true, false}
-use mathlib.Core.List.{List}
-use lib.ListN.{length}
-use Rattle.lists.specs.First.{lowest}
-use Rattle.lists.proofs.Laws.First.{LowestFrom, lowest-from, lowest_passed, lowest_found, lowest-over}
-use Rattle.stored.specs.Model.{is_rep_in}
-use Rattle.rounds.specs.Colours.{colour_at}
-use Rattle.rounds.specs.Parts.{has_colour}
-use Rattle.rounds.proofs.Laws.Parts.{has_colour_lem, has_alias, has_other}
+use Rattle.lists.proofs.Laws.First.{lowest-from, lowest-over}
 use Rattle.rounds.proofs.classes.lowest_in.Invariants.{other, an_alias, found}
 use Rattle.rounds.proofs.classes.lowest_in.Goals as goal
 

@@ -2,12 +2,11 @@
 -- elements left. Assumes nothing.
 use Prim.Native.Nat.{ℕ, ◌+◌, ◌-◌, ◌<◌}
 use mathlib.Core.Path.{◌≡◌, sym, ◌∙◌}
-use mathlib.Core.Logic.{⊎_elim}
 use mathlib.Core.Bool.{Bool, true, false}
 use mathlib.Core.List.{List}
 use lib.ListN.{length}
 use Rattle.lists.specs.First.{lowest}
-use Rattle.lists.proofs.Laws.First.{LowestFrom, lowest-from, lowest_passed, lowest_found, lowest-over}
+use Rattle.lists.proofs.Laws.First.{LowestFrom, lowest_passed, lowest_found}
 use Rattle.stored.specs.Model.{is_rep_in}
 use Rattle.rounds.specs.Colours.{colour_at}
 use Rattle.rounds.specs.Parts.{has_colour}

@@ -1,14 +1,4 @@
 use Rattle.rounds.proofs.classes.rep_count.Goals.{then-is_rep, else-is_rep}
-use Prim.Native.Nat.{ℕ, ◌+◌, ◌-◌, ◌<◌, ◌≤◌}
-use mathlib.Core.Path.{◌≡◌, sym, ◌∙◌, ap}
-use mathlib.Core.Logic.{⊎_elim}
-use mathlib.Core.Bool.{Bool, true, false}
-use mathlib.Core.List.{List, [], ◌∷◌}
-use native.Mathlib.Omega.{arith}
-use lib.ListN.{length, length-append}
-use Rattle.stored.specs.Model.{is_rep_in}
-use Rattle.rounds.specs.Parts.{reps_below}
-use Rattle.rounds.proofs.Laws.Parts.{reps_none, reps_rep, reps_alias}
 use Rattle.rounds.proofs.classes.rep_count.Invariants.{start, done, a_rep, an_alias}
 use Rattle.rounds.proofs.classes.rep_count.Goals as goal
 

@@ -1,15 +1,4 @@
-use Prim.Native.Nat.{ℕ, suc, ◌-◌, ◌<◌, ◌≤◌}
-use mathlib.Core.Path.{◌≡◌, sym, ◌∙◌, ap}
-use mathlib.Core.List.{List, []}
 use native.Mathlib.Omega.{arith}
-use lib.ListN.{length, get_or}
-use Rattle.stored.specs.Limits.{max_elements}
-use Rattle.rounds.specs.declared.classes.Open.{Open}
-use Rattle.rounds.specs.declared.classes.Open.TheVariants as found
-use Rattle.rounds.specs.Classes.{open_of, smallest_from}
-use Rattle.rounds.specs.Parts.{reps_in, colours_in, CountsOf, smallest_with}
-use Rattle.rounds.proofs.Laws.Classes.{open_none, with_single, from_none, from_more, colours_count}
-use Rattle.rounds.proofs.Laws.Parts.{colours_fit}
 use Rattle.rounds.proofs.classes.smallest_in.Invariants.{start, small, done, more, passed}
 use Rattle.rounds.proofs.classes.smallest_in.Goals as goal
 

@@ -1,9 +1,8 @@
 -- `rounds::colours::write_left` meets its contract. The invariant: the colours of the elements below x are written over the front; the measure is the
 -- number of elements left. Assumes nothing.
 use Prim.Native.Nat.{◌-◌}
-use native.Mathlib.Omega.{arith}
 use lib.ListN.{length}
-use Rattle.lists.proofs.Laws.Entries.{WrittenTo, written_none, written_length, written_room, written_more, written_all}
+use Rattle.lists.proofs.Laws.Entries.{WrittenTo}
 use Rattle.rounds.specs.Parts.{left_colour_in}
 use Rattle.rounds.proofs.colours.write_left.Given as goal
 

@@ -1,8 +1,5 @@
-use Prim.Native.Nat.{◌-◌}
 use native.Mathlib.Omega.{arith}
-use lib.ListN.{length}
-use Rattle.lists.proofs.Laws.Entries.{WrittenTo, written_none, written_length, written_room, written_more, written_all}
-use Rattle.rounds.specs.Parts.{right_colour_in}
+use Rattle.lists.proofs.Laws.Entries.{written_none, written_length, written_room, written_more, written_all}
 use Rattle.rounds.proofs.colours.write_right.Goals as goal
 
 pub loop-y-init : goal.loop-y-init

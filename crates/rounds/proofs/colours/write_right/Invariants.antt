@@ -1,9 +1,8 @@
 -- `rounds::colours::write_right` meets its contract. The invariant: the colours of the elements below y are written over the front; the measure is the
 -- number of elements left. Assumes nothing.
 use Prim.Native.Nat.{◌-◌}
-use native.Mathlib.Omega.{arith}
 use lib.ListN.{length}
-use Rattle.lists.proofs.Laws.Entries.{WrittenTo, written_none, written_length, written_room, written_more, written_all}
+use Rattle.lists.proofs.Laws.Entries.{WrittenTo}
 use Rattle.rounds.specs.Parts.{right_colour_in}
 use Rattle.rounds.proofs.colours.write_right.Given as goal
 

@@ -1,17 +1,5 @@
 use Rattle.rounds.proofs.counts.counts_in.Goals.{then-is_rep, else-is_rep}
-use Prim.Native.Nat.{ℕ, ◌+◌, ◌-◌, ◌<◌, ◌≤◌}
-use mathlib.Core.Path.{◌≡◌, sym, ◌∙◌, ap, subst}
-use mathlib.Core.Logic.{⊎_elim}
-use mathlib.Core.Bool.{Bool, true, false}
-use mathlib.Core.List.{List, [], ◌∷◌, ◌++◌}
 use native.Mathlib.Omega.{arith}
-use lib.ListN.{length, get_or, set}
-use Rattle.stored.specs.Limits.{max_elements}
-use Rattle.stored.specs.Model.{is_rep_in}
-use Rattle.rounds.specs.Colours.{colour_at}
-use Rattle.rounds.specs.Parts.{colours_below, colours_in, are_small, CountsOf}
-use Rattle.rounds.proofs.Laws.Parts.{colours_none, colours_rep, colours_alias, colours_fit, colour_there}
-use Rattle.rounds.proofs.Laws.Counts.{small_below, count_fits, counts_more}
 use Rattle.rounds.proofs.counts.counts_in.Invariants.{start, done, an_alias, below, not_full, a_rep}
 use Rattle.rounds.proofs.counts.counts_in.Goals as goal
 

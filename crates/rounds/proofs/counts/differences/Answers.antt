@@ -1,17 +1,7 @@
 use Rattle.rounds.proofs.counts.differences.Goals.{then-left-k, else-left-k}
-use Prim.Native.Nat.{ℕ, ◌+◌, ◌-◌, ◌≤◌, ◌<◌}
-use mathlib.Core.Path.{◌≡◌, sym, ◌∙◌}
-use mathlib.Core.Bool.{true, false}
-use mathlib.Core.Logic.{◌⊎◌, inl, inr, ⊎_elim}
-use mathlib.Core.List.{List}
 use native.Mathlib.Omega.{arith}
-use borrow.Author.Tests.{eqb-true, eqb-false, eq-eqb, ne_eqb}
 use lib.Dec.{eqb}
-use lib.ListN.{length, get_or}
-use Rattle.lists.specs.Order.{same_row}
-use Rattle.lists.proofs.Laws.Every.{PairsFrom, pairs_from_lem, pairs_passed, pairs_failed, pairs_over}
-use Rattle.lists.proofs.Laws.Order.{rows_same}
-use Rattle.lists.proofs.Laws.Tests.{split}
+use Rattle.lists.proofs.Laws.Every.{pairs_from_lem}
 use Rattle.rounds.proofs.counts.differences.Invariants.{differ_done, differ_more, differ_same}
 use Rattle.rounds.proofs.counts.differences.Goals as goal
 

@@ -1,9 +1,6 @@
 use Rattle.rounds.proofs.counts.filled.Goals.{then-table-k-ne0, else-table-k-ne0}
-use Prim.Native.Nat.{◌-◌}
-use mathlib.Core.Logic.{⊎_elim}
 use native.Mathlib.Omega.{arith}
-use lib.ListN.{length}
-use Rattle.rounds.proofs.Laws.Counts.{Filled, filled_start, filled_some, filled_none, filled_done}
+use Rattle.rounds.proofs.Laws.Counts.{filled_start, filled_some, filled_none, filled_done}
 use Rattle.rounds.proofs.counts.filled.Goals as goal
 
 pub loop-k-init : goal.loop-k-init

@@ -1,10 +1,8 @@
 -- `rounds::counts::filled` meets its contract. The invariant: n counts the entries below k that are not 0; the measure is the number of entries left.
 -- Assumes nothing.
 use Prim.Native.Nat.{◌-◌}
-use mathlib.Core.Logic.{⊎_elim}
-use native.Mathlib.Omega.{arith}
 use lib.ListN.{length}
-use Rattle.rounds.proofs.Laws.Counts.{Filled, filled_start, filled_some, filled_none, filled_done}
+use Rattle.rounds.proofs.Laws.Counts.{Filled}
 use Rattle.rounds.proofs.counts.filled.Given as goal
 
 abbrev pub invariant-loop-k : goal.invariant-loop-k

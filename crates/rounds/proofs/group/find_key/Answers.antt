@@ -2,7 +2,7 @@ use mathlib.Core.Path.{refl, ◌∙◌, ap}
 use native.Mathlib.Omega.{arith}
 use lib.ListN.{length}
 use Prim.Native.Nat.{◌-◌}
-use Rattle.rounds.proofs.Laws.Holders.{bucket_low, Seeking, seeking_start, seeking_over, seeking_found, seeking_more, place_low, place_room, ask, next_low}
+use Rattle.rounds.proofs.Laws.Holders.{bucket_low, seeking_start, seeking_over, seeking_found, seeking_more, place_low, place_room, ask, next_low}
 use Rattle.rounds.proofs.group.find_key.Goals as goal
 
 pub offset_bounds-heads-bucket : goal.offset_bounds-heads-bucket

@@ -1,9 +1,5 @@
 -- `rounds::group::find_key` meets its contract. The invariant: p leads to the last holder of the bucket that was not looked at (`Seeking`); the measure is p. Assumes nothing.
-use mathlib.Core.Path.{refl, ◌∙◌, ap}
-use native.Mathlib.Omega.{arith}
-use lib.ListN.{length}
-use Prim.Native.Nat.{◌-◌}
-use Rattle.rounds.proofs.Laws.Holders.{bucket_low, Seeking, seeking_start, seeking_over, seeking_found, seeking_more, place_low, place_room, ask, next_low}
+use Rattle.rounds.proofs.Laws.Holders.{Seeking}
 use Rattle.rounds.proofs.group.find_key.Given as goal
 
 abbrev pub invariant-loop-p : goal.invariant-loop-p

@@ -1,10 +1,8 @@
 use Rattle.rounds.proofs.group.group_side.Goals.{then-is_rep, else-is_rep}
-use Prim.Native.Nat.{◌-◌}
 use mathlib.Core.Path.{sym, ◌∙◌, ap}
-use mathlib.Core.Logic.{⊎_elim}
 use native.Mathlib.Omega.{arith}
 use lib.ListN.{length}
-use Rattle.rounds.proofs.Laws.Grouping.{Grouping, grouping_start, grouping_over, grouping_alias, grouping_rep, ready_now, one_more_fits, known_here, holding_now, found_within, inside_out, out_long, grouping_as}
+use Rattle.rounds.proofs.Laws.Grouping.{grouping_start, grouping_over, grouping_alias, grouping_rep, ready_now, one_more_fits, known_here, holding_now, found_within, inside_out, out_long, grouping_as}
 use Rattle.rounds.proofs.group.group_side.Goals as goal
 
 pub loop-x-init : goal.loop-x-init

@@ -1,10 +1,7 @@
 -- `rounds::group::group_side` meets its contract. The invariant: the elements before x are grouped (`Grouping`); the measure is the number of elements left. Assumes nothing.
 use Prim.Native.Nat.{◌-◌}
-use mathlib.Core.Path.{sym, ◌∙◌, ap}
-use mathlib.Core.Logic.{⊎_elim}
-use native.Mathlib.Omega.{arith}
 use lib.ListN.{length}
-use Rattle.rounds.proofs.Laws.Grouping.{Grouping, grouping_start, grouping_over, grouping_alias, grouping_rep, ready_now, one_more_fits, known_here, holding_now, found_within, inside_out, out_long, grouping_as}
+use Rattle.rounds.proofs.Laws.Grouping.{Grouping}
 use Rattle.rounds.proofs.group.group_side.Given as goal
 
 abbrev pub invariant-loop-x : goal.invariant-loop-x

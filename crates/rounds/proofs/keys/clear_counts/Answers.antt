@@ -1,6 +1,5 @@
-use Prim.Native.Nat.{◌-◌}
 use native.Mathlib.Omega.{arith}
-use Rattle.rounds.proofs.Laws.Tables.{Emptying, emptying_start, emptying_over, emptying_more, met_small, met_room, table_room}
+use Rattle.rounds.proofs.Laws.Tables.{emptying_start, emptying_over, emptying_more, met_small, met_room, table_room}
 use Rattle.rounds.proofs.keys.clear_counts.Goals as goal
 
 pub loop-i-init : goal.loop-i-init

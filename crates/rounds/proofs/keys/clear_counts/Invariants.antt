@@ -1,8 +1,7 @@
 -- `rounds::keys::clear_counts` meets its contract. The invariant: a number that none of those from i on is stands with 0 in the table (`Emptying`); the measure is how many those are.
 -- Assumes nothing.
 use Prim.Native.Nat.{◌-◌}
-use native.Mathlib.Omega.{arith}
-use Rattle.rounds.proofs.Laws.Tables.{Emptying, emptying_start, emptying_over, emptying_more, met_small, met_room, table_room}
+use Rattle.rounds.proofs.Laws.Tables.{Emptying}
 use Rattle.rounds.proofs.keys.clear_counts.Given as goal
 
 abbrev pub invariant-loop-i : goal.invariant-loop-i

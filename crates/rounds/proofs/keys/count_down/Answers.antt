@@ -1,7 +1,6 @@
-use Prim.Native.Nat.{◌-◌}
 use mathlib.Core.Bool.{true≢false, false≢true}
 use native.Mathlib.Omega.{arith}
-use Rattle.rounds.proofs.Laws.Tables.{Lowering, lowering_start, lowering_over, lowering_failed, lowering_more, met_small, met_room, table_room}
+use Rattle.rounds.proofs.Laws.Tables.{lowering_start, lowering_over, lowering_failed, lowering_more, met_small, met_room, table_room}
 use Rattle.rounds.proofs.keys.count_down.Goals as goal
 
 pub loop-i-init : goal.loop-i-init

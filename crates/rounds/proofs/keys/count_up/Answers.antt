@@ -1,6 +1,5 @@
-use Prim.Native.Nat.{◌-◌}
 use native.Mathlib.Omega.{arith}
-use Rattle.rounds.proofs.Laws.Tables.{Counting, counting_start, counting_over, counting_more, count_small, met_small, met_room, table_room}
+use Rattle.rounds.proofs.Laws.Tables.{counting_start, counting_over, counting_more, count_small, met_small, met_room, table_room}
 use Rattle.rounds.proofs.keys.count_up.Goals as goal
 
 pub loop-i-init : goal.loop-i-init

@@ -1,8 +1,7 @@
 -- `rounds::keys::count_up` meets its contract. The invariant: at i the table holds what is to be counted but for the numbers from i on (`Counting`); the measure is how many those are.
 -- Assumes nothing.
 use Prim.Native.Nat.{◌-◌}
-use native.Mathlib.Omega.{arith}
-use Rattle.rounds.proofs.Laws.Tables.{Counting, counting_start, counting_over, counting_more, count_small, met_small, met_room, table_room}
+use Rattle.rounds.proofs.Laws.Tables.{Counting}
 use Rattle.rounds.proofs.keys.count_up.Given as goal
 
 abbrev pub invariant-loop-i : goal.invariant-loop-i

@@ -1,14 +1,8 @@
-use Prim.Native.Nat.{ℕ, ◌+◌, ◌*◌, ◌-◌, ◌<◌, ◌≤◌}
-use mathlib.Core.Path.{◌≡◌, refl, ◌∙◌, ap}
-use mathlib.Core.List.{List}
+use Prim.Native.Nat.{◌+◌}
+use mathlib.Core.Path.{refl, ◌∙◌}
 use native.Mathlib.Omega.{arith}
-use native.Mathlib.Nat.{mul-le-mul}
-use lib.Dec.{eqb}
-use lib.ListN.{get_or}
-use Rattle.lists.specs.Every.{how_many}
-use Rattle.rounds.specs.Board.{start_start, cells_on, start_of, segment, mark_on, mark_of_numbers, Ready}
-use Rattle.rounds.proofs.Laws.Tables.{Summing, summing_start, summing_over, summing_more, sum_room, sum_small, sum_fits}
-use Rattle.rounds.proofs.Laws.Segments.{segment_of, segment_is}
+use Rattle.rounds.specs.Board.{start_start}
+use Rattle.rounds.proofs.Laws.Tables.{summing_over, summing_more, sum_room, sum_small, sum_fits}
 use Rattle.rounds.proofs.keys.mark_of.Invariants.{square_small, marking_start}
 use Rattle.rounds.proofs.keys.mark_of.Goals as goal
 

@@ -1,6 +1,6 @@
 -- `rounds::keys::mark_of` meets its contract. The invariant: the sum and the mark of the numbers from i on make the mark of all (`Summing`); the measure is how many are left. Assumes nothing.
 use Prim.Native.Nat.{ℕ, ◌+◌, ◌*◌, ◌-◌, ◌<◌, ◌≤◌}
-use mathlib.Core.Path.{◌≡◌, refl, ◌∙◌, ap}
+use mathlib.Core.Path.{◌≡◌, ap}
 use mathlib.Core.List.{List}
 use native.Mathlib.Omega.{arith}
 use native.Mathlib.Nat.{mul-le-mul}
@@ -8,7 +8,7 @@ use lib.Dec.{eqb}
 use lib.ListN.{get_or}
 use Rattle.lists.specs.Every.{how_many}
 use Rattle.rounds.specs.Board.{start_start, cells_on, start_of, segment, mark_on, mark_of_numbers, Ready}
-use Rattle.rounds.proofs.Laws.Tables.{Summing, summing_start, summing_over, summing_more, sum_room, sum_small, sum_fits}
+use Rattle.rounds.proofs.Laws.Tables.{Summing, summing_start}
 use Rattle.rounds.proofs.Laws.Segments.{segment_of, segment_is}
 use Rattle.rounds.proofs.keys.mark_of.Given as goal
 

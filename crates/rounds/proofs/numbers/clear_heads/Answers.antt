@@ -1,12 +1,4 @@
-use Prim.Native.Nat.{ℕ, ◌+◌, ◌-◌, ◌<◌, ◌≤◌}
-use mathlib.Core.Path.{◌≡◌, refl, ◌∙◌}
-use mathlib.Core.Logic.{by_cases}
-use mathlib.Core.List.{List}
 use native.Mathlib.Omega.{arith}
-use native.Mathlib.Decide.{ℕ_discrete}
-use lib.ListN.{length, set, length-set}
-use lib.Seq.{get_or-set_same, get_or-set_other}
-use Rattle.rounds.specs.Board.{board_room, count_start, Cleared}
 use Rattle.rounds.proofs.numbers.clear_heads.Invariants.{start, done, inside, more}
 use Rattle.rounds.proofs.numbers.clear_heads.Goals as goal
 

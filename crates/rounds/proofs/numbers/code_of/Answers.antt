@@ -1,12 +1,4 @@
-use Prim.Native.Nat.{ℕ, ◌+◌, ◌-◌, ◌*◌, ◌%◌, ◌<◌, ◌≤◌}
-use mathlib.Core.Path.{◌≡◌, refl, sym, ◌∙◌, ap}
-use mathlib.Core.List.{List}
 use native.Mathlib.Omega.{arith}
-use lib.ListN.{length, get_or, drop}
-use Rattle.rounds.specs.Colours.{colour_at}
-use Rattle.rounds.specs.Board.{board_room, colour_start, line_at, code_from, code_of}
-use Rattle.rounds.proofs.Laws.Board.{line_length, line_entry}
-use Rattle.rounds.proofs.Laws.Buckets.{code_over, code_next}
 use Rattle.rounds.proofs.numbers.code_of.Invariants.{start, done, more}
 use Rattle.rounds.proofs.numbers.code_of.Goals as goal
 

@@ -1,10 +1,5 @@
-use Prim.Native.Nat.{ℕ, ◌+◌, ◌*◌, ◌<◌, ◌≤◌}
-use mathlib.Core.Path.{◌≡◌}
-use mathlib.Core.List.{List}
 use native.Mathlib.Omega.{arith}
-use lib.ListN.{length, get_or}
-use Rattle.rounds.specs.Board.{board_room, lines_on, bucket_at, Bucketed}
-use Rattle.rounds.proofs.Laws.Buckets.{Sought, Walk, bucket_small, row_fits, row_known, head_small, walk_start, walk_over, at_fits, at_known, walk_less, link_small, walk_found, walk_more}
+use Rattle.rounds.proofs.Laws.Buckets.{bucket_small, row_fits, row_known, head_small, walk_start, walk_over, at_fits, at_known, walk_less, link_small, walk_found, walk_more}
 use Rattle.rounds.proofs.numbers.first_line.Invariants.{sought}
 use Rattle.rounds.proofs.numbers.first_line.Goals as goal
 

@@ -1,12 +1,6 @@
-use Prim.Native.Nat.{ℕ, ◌+◌, ◌-◌, ◌*◌, ◌<◌, ◌≤◌}
-use mathlib.Core.Path.{◌≡◌, sym, ◌∙◌, ap}
-use mathlib.Core.Bool.{Bool}
-use mathlib.Core.List.{List}
+use Prim.Native.Nat.{◌-◌}
 use native.Mathlib.Omega.{arith}
-use lib.ListN.{length, get_or}
-use Rattle.lists.specs.Order.{same_row}
-use Rattle.rounds.specs.Board.{board_room, line_at, lines_on, bucket_at, Bucketed}
-use Rattle.rounds.proofs.Laws.Buckets.{Sought, Walk, bucket_small, head_small, walk_start, walk_over, at_fits, at_known, walk_less, link_small, walk_found, walk_more}
+use Rattle.rounds.proofs.Laws.Buckets.{bucket_small, head_small, walk_start, walk_over, at_fits, at_known, walk_less, link_small, walk_found, walk_more}
 use Rattle.rounds.proofs.numbers.first_two.Invariants.{sought, as_line}
 use Rattle.rounds.proofs.numbers.first_two.Goals as goal
 

@@ -1,6 +1,6 @@
 -- `rounds::numbers::first_two` meets its contract. The invariant is that of `first_line` for rows of two cells (`Walk`); the measure is q, since a link leads to an earlier row.
 -- Assumes nothing.
-use Prim.Native.Nat.{ℕ, ◌+◌, ◌-◌, ◌*◌, ◌<◌, ◌≤◌}
+use Prim.Native.Nat.{ℕ, ◌+◌, ◌*◌, ◌<◌, ◌≤◌}
 use mathlib.Core.Path.{◌≡◌, sym, ◌∙◌, ap}
 use mathlib.Core.Bool.{Bool}
 use mathlib.Core.List.{List}
@@ -8,7 +8,7 @@ use native.Mathlib.Omega.{arith}
 use lib.ListN.{length, get_or}
 use Rattle.lists.specs.Order.{same_row}
 use Rattle.rounds.specs.Board.{board_room, line_at, lines_on, bucket_at, Bucketed}
-use Rattle.rounds.proofs.Laws.Buckets.{Sought, Walk, bucket_small, head_small, walk_start, walk_over, at_fits, at_known, walk_less, link_small, walk_found, walk_more}
+use Rattle.rounds.proofs.Laws.Buckets.{Sought, Walk}
 use Rattle.rounds.proofs.numbers.first_two.Given as goal
 
 -- what the function is called with

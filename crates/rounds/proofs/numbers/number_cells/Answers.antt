@@ -1,21 +1,5 @@
-use Prim.Native.Nat.{ℕ, ◌+◌, ◌-◌, ◌*◌, ◌<◌, ◌≤◌}
-use mathlib.Core.Path.{◌≡◌, sym, ◌∙◌, ap₂, subst}
-use mathlib.Core.Logic.{by_cases}
-use mathlib.Core.List.{List, ◌∷◌}
 use native.Mathlib.Omega.{arith}
-use native.Mathlib.Nat.{le-mul_of_pos_right}
-use native.Mathlib.Decide.{dec_le}
-use lib.ListN.{length, get_or}
-use Rattle.lists.proofs.Laws.Every.{get_d_mem}
-use Rattle.stored.specs.declared.layout.Layout.{Layout}
-use Rattle.stored.specs.Limits.{max_relations}
-use Rattle.stored.specs.Model.{Rel, no_relation, relation_at}
-use Rattle.stored.specs.Reading.{Reads, model_of}
-use Rattle.stored.proofs.Laws.Reading.{reads_formed, relations_is, few_relations, relation_there}
-use Rattle.rows.proofs.Laws.Rows.{Alike, as_many_relations, same_arity}
-use Rattle.rounds.specs.Board.{count_start, joined_at, joined_from, joined, cells_of, cells_on, colours_on, numbers_from, row_numbers_at, Listed, NumbersAt, Renumbered, Empty}
-use Rattle.rounds.proofs.Laws.Joined.{joined_even}
-use Rattle.rounds.proofs.Laws.Numbering.{joined_next, joined_end, joined_columns, joined_count, Numbering, numbering_none, numbering_all, still_listed, still_empty, relation_fits, numbering_more}
+use Rattle.rounds.proofs.Laws.Numbering.{still_listed, still_empty}
 use Rattle.rounds.proofs.numbers.number_cells.Invariants.{start, done, few, fits, small, few_rows, more}
 use Rattle.rounds.proofs.numbers.number_cells.Goals as goal
 

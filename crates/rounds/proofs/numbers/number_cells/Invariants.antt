@@ -17,7 +17,7 @@ use Rattle.stored.proofs.Laws.Reading.{reads_formed, relations_is, few_relations
 use Rattle.rows.proofs.Laws.Rows.{Alike, as_many_relations, same_arity}
 use Rattle.rounds.specs.Board.{count_start, joined_at, joined_from, joined, cells_of, cells_on, colours_on, numbers_from, row_numbers_at, Listed, NumbersAt, Renumbered, Empty}
 use Rattle.rounds.proofs.Laws.Joined.{joined_even}
-use Rattle.rounds.proofs.Laws.Numbering.{joined_next, joined_end, joined_columns, joined_count, Numbering, numbering_none, numbering_all, still_listed, still_empty, relation_fits, numbering_more}
+use Rattle.rounds.proofs.Laws.Numbering.{joined_next, joined_end, joined_columns, joined_count, Numbering, numbering_none, numbering_all, relation_fits, numbering_more}
 use Rattle.rounds.proofs.numbers.number_cells.Given as goal
 
 -- the relations of both files from k on, the numbers of all cells, and how many cells there are

@@ -2,7 +2,7 @@
 use Rattle.rounds.proofs.numbers.number_relation.Goals.{then-arity-eq2, else-arity-eq2}
 use Prim.Native.Nat.{ℕ, ◌+◌, ◌-◌, ◌*◌, ◌<◌, ◌≤◌}
 use mathlib.Core.Path.{◌≡◌, refl, sym, ◌∙◌, ap, subst}
-use mathlib.Core.Logic.{⊎_elim, by_cases}
+use mathlib.Core.Logic.{by_cases}
 use mathlib.Core.List.{List}
 use native.Mathlib.Omega.{arith}
 use native.Mathlib.Decide.{dec_le}

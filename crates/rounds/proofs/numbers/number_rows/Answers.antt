@@ -1,6 +1,5 @@
-use Prim.Native.Nat.{◌-◌}
 use native.Mathlib.Omega.{arith}
-use Rattle.rounds.proofs.Laws.Numbers.{NumberedTo, numbered_none, numbered_all, numbered_kept, row_room, room_now, line_low, line_known, row_sought, row_bucket, row_low, first_small, listed₁, numbered_more}
+use Rattle.rounds.proofs.Laws.Numbers.{numbered_none, numbered_all, numbered_kept, row_room, room_now, line_low, line_known, row_sought, row_bucket, row_low, first_small, listed₁, numbered_more}
 use Rattle.rounds.proofs.numbers.number_rows.Goals as goal
 
 pub loop-i-init : goal.loop-i-init

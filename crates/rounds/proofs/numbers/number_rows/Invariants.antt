@@ -1,8 +1,7 @@
 -- `rounds::numbers::number_rows` meets its contract. The invariant: the cells of the first i rows are numbered, and these rows stand in their buckets (`NumberedTo`); the measure is the number of
 -- rows left. Assumes nothing.
 use Prim.Native.Nat.{◌-◌}
-use native.Mathlib.Omega.{arith}
-use Rattle.rounds.proofs.Laws.Numbers.{NumberedTo, numbered_none, numbered_all, numbered_kept, row_room, room_now, line_low, line_known, row_sought, row_bucket, row_low, first_small, listed₁, numbered_more}
+use Rattle.rounds.proofs.Laws.Numbers.{NumberedTo}
 use Rattle.rounds.proofs.numbers.number_rows.Given as goal
 
 abbrev pub invariant-loop-i : goal.invariant-loop-i

@@ -1,7 +1,6 @@
-use Prim.Native.Nat.{◌-◌}
 use native.Mathlib.Omega.{arith}
 use Rattle.rounds.proofs.Laws.Buckets.{known_first}
-use Rattle.rounds.proofs.Laws.Numbers.{NumberedTo, numbered_none, numbered_all, numbered_kept, room_now, line_low, line_room_lem, line_known, two_sought, two_kept, two_written, two_more}
+use Rattle.rounds.proofs.Laws.Numbers.{numbered_none, numbered_all, numbered_kept, room_now, line_low, line_room_lem, line_known, two_sought, two_kept, two_written, two_more}
 use Rattle.rounds.proofs.numbers.number_twos.Goals as goal
 
 pub loop-i-init : goal.loop-i-init

@@ -1,8 +1,6 @@
 -- `rounds::numbers::number_twos` meets its contract. The invariant is that of `number_rows` for rows of two cells (`NumberedTo`); the measure is the number of rows left. Assumes nothing.
 use Prim.Native.Nat.{◌-◌}
-use native.Mathlib.Omega.{arith}
-use Rattle.rounds.proofs.Laws.Buckets.{known_first}
-use Rattle.rounds.proofs.Laws.Numbers.{NumberedTo, numbered_none, numbered_all, numbered_kept, room_now, line_low, line_room_lem, line_known, two_sought, two_kept, two_written, two_more}
+use Rattle.rounds.proofs.Laws.Numbers.{NumberedTo}
 use Rattle.rounds.proofs.numbers.number_twos.Given as goal
 
 abbrev pub invariant-loop-i : goal.invariant-loop-i

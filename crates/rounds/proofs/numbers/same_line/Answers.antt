@@ -1,17 +1,4 @@
-use Prim.Native.Nat.{ℕ, ◌<◌, ◌≤◌, ◌+◌, ◌-◌}
-use mathlib.Core.Path.{◌≡◌, sym, ◌∙◌}
-use mathlib.Core.Bool.{true, false}
-use mathlib.Core.List.{List}
 use native.Mathlib.Omega.{arith}
-use borrow.Author.Tests.{eq-eqb, ne_eqb}
-use lib.Dec.{eqb}
-use lib.ListN.{length, get_or, drop}
-use Rattle.lists.specs.Order.{same_row}
-use Rattle.lists.proofs.Laws.Every.{PairsFrom, pairs_from_lem, pairs_passed, pairs_failed, pairs_over}
-use Rattle.lists.proofs.Laws.Order.{rows_same}
-use Rattle.rounds.specs.Colours.{colour_at}
-use Rattle.rounds.specs.Board.{board_room, colour_start, line_at}
-use Rattle.rounds.proofs.Laws.Board.{line_length, line_entry}
 use Rattle.rounds.proofs.numbers.same_line.Invariants.{start, done, stop, more}
 use Rattle.rounds.proofs.numbers.same_line.Goals as goal
 

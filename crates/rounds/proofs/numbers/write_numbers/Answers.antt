@@ -1,15 +1,4 @@
-use Prim.Native.Nat.{ℕ, ◌+◌, ◌-◌, ◌<◌, ◌≤◌}
-use mathlib.Core.Path.{◌≡◌, refl, sym, ◌∙◌, ap}
-use mathlib.Core.Logic.{by_cases}
-use mathlib.Core.List.{List}
 use native.Mathlib.Omega.{arith}
-use native.Mathlib.Decide.{ℕ_discrete}
-use lib.ListN.{length, get_or, set, length-set}
-use lib.Seq.{get_or-set_same, get_or-set_other}
-use Rattle.lists.specs.Numbers.{up_from}
-use Rattle.lists.proofs.Laws.Numbers.{length-up_from, get_d_up_from}
-use Rattle.rounds.specs.Board.{board_room, position_start, number_start, cells_on, position_of, Listed, NumbersAt, Scattered}
-use Rattle.rounds.proofs.Laws.Listed.{positions_apart, cells_around, cells_long, position_small}
 use Rattle.rounds.proofs.numbers.write_numbers.Invariants.{start, done, cell_inside, cell_room, place_small, inside, more}
 use Rattle.rounds.proofs.numbers.write_numbers.Goals as goal
 

@@ -1,7 +1,5 @@
-use Prim.Native.Nat.{◌-◌}
 use native.Mathlib.Omega.{arith}
-use lib.ListN.{length}
-use Rattle.rounds.proofs.Laws.Board.{WrittenAt, written_at_none, written_at_length, written_at_more, written_at_all}
+use Rattle.rounds.proofs.Laws.Board.{written_at_none, written_at_length, written_at_more, written_at_all}
 use Rattle.rounds.proofs.round.write_colours.Goals as goal
 
 pub loop-x-init : goal.loop-x-init

@@ -1,8 +1,7 @@
 -- `rounds::round::write_colours` meets its contract. The invariant: the first x colours are written from `start` on; the measure is the number of colours left. Assumes nothing.
 use Prim.Native.Nat.{◌-◌}
-use native.Mathlib.Omega.{arith}
 use lib.ListN.{length}
-use Rattle.rounds.proofs.Laws.Board.{WrittenAt, written_at_none, written_at_length, written_at_more, written_at_all}
+use Rattle.rounds.proofs.Laws.Board.{WrittenAt}
 use Rattle.rounds.proofs.round.write_colours.Given as goal
 
 abbrev pub invariant-loop-x : goal.invariant-loop-x

@@ -1,17 +1,5 @@
 use Rattle.rows.proofs.check.first_missing.Goals.{then-images-x+else-is_rep, else-images-x}
-use Prim.Native.Nat.{ℕ, ◌+◌, ◌-◌, ◌<◌, ◌≤◌}
-use mathlib.Core.Path.{◌≡◌, sym, ◌∙◌}
-use mathlib.Core.Logic.{⊎_elim}
-use mathlib.Core.Bool.{Bool, true, false}
-use mathlib.Core.List.{List}
 use native.Mathlib.Omega.{arith}
-use lib.ListN.{length, get_or}
-use Rattle.lists.specs.First.{lowest}
-use Rattle.stored.specs.Model.{is_rep_in}
-use Rattle.rows.specs.Check.{is_missing}
-use Rattle.lists.proofs.Laws.Every.{get_d_inside}
-use Rattle.lists.proofs.Laws.First.{LowestFrom, lowest-from, lowest_passed, lowest_found, lowest-over}
-use Rattle.rows.proofs.Laws.Check.{missing_alias, missing_none, missing_given}
 use Rattle.rows.proofs.check.first_missing.Invariants.{start, done, inside, given, is_alias, found}
 use Rattle.rows.proofs.check.first_missing.Goals as goal
 

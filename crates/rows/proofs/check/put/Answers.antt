@@ -1,8 +1,6 @@
 use mathlib.Core.Path.{refl}
-use Prim.Native.Nat.{◌-◌}
 use native.Mathlib.Omega.{arith}
-use lib.ListN.{length}
-use Rattle.lists.proofs.Laws.Over.{Written, written_none, written_length, written_more, written_all}
+use Rattle.lists.proofs.Laws.Over.{written_none, written_length, written_more, written_all}
 use Rattle.rows.proofs.check.put.Goals as goal
 
 pub loop-j-init : goal.loop-j-init

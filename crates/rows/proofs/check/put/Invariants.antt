@@ -1,10 +1,8 @@
 -- `rows::check::put` meets its contract. The invariant: the first j bytes are written over the front of the output; the measure is the number of
 -- bytes left. Assumes nothing.
-use mathlib.Core.Path.{refl}
 use Prim.Native.Nat.{◌-◌}
-use native.Mathlib.Omega.{arith}
 use lib.ListN.{length}
-use Rattle.lists.proofs.Laws.Over.{Written, written_none, written_length, written_more, written_all}
+use Rattle.lists.proofs.Laws.Over.{Written}
 use Rattle.rows.proofs.check.put.Given as goal
 
 abbrev pub invariant-loop-j : goal.invariant-loop-j

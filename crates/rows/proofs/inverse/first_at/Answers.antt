@@ -1,9 +1,6 @@
-use Prim.Native.Nat.{◌-◌}
 use mathlib.Core.Path.{sym}
 use borrow.Author.Tests.{eq-eqb, ne_eqb}
-use lib.Dec.{eqb}
-use lib.ListN.{length}
-use Rattle.lists.proofs.Laws.First.{FirstFrom, first_from, first_passed, first_here, first_nowhere}
+use Rattle.lists.proofs.Laws.First.{first_from, first_passed, first_here, first_nowhere}
 use Rattle.rows.proofs.inverse.first_at.Goals as goal
 
 pub loop-x-init : goal.loop-x-init

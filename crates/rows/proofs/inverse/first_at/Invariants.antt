@@ -1,11 +1,9 @@
 -- `rows::inverse::first_at` meets its contract. The invariant: from place x on the image stands first where it does in the whole map; the measure is
 -- the number of places left. Assumes nothing.
 use Prim.Native.Nat.{◌-◌}
-use mathlib.Core.Path.{sym}
-use borrow.Author.Tests.{eq-eqb, ne_eqb}
 use lib.Dec.{eqb}
 use lib.ListN.{length}
-use Rattle.lists.proofs.Laws.First.{FirstFrom, first_from, first_passed, first_here, first_nowhere}
+use Rattle.lists.proofs.Laws.First.{FirstFrom}
 use Rattle.rows.proofs.inverse.first_at.Given as goal
 
 abbrev pub invariant-loop-x : goal.invariant-loop-x

@@ -1,19 +1,5 @@
 use Rattle.rows.proofs.inverse.is_onto.Goals.{then-is_rep+else-map-first_at, else-is_rep}
-use Prim.Native.Nat.{ℕ, ◌+◌, ◌-◌, ◌<◌, ◌≤◌}
-use mathlib.Core.Path.{◌≡◌, sym, ◌∙◌}
-use mathlib.Core.Logic.{⊎_elim}
-use mathlib.Core.Bool.{Bool, true, false}
-use mathlib.Core.List.{List}
-use native.Mathlib.Omega.{arith}
-use lib.Dec.{eqb}
-use lib.ListN.{length}
-use Rattle.lists.specs.Every.{all}
-use Rattle.lists.specs.First.{first_at}
-use Rattle.lists.specs.Numbers.{up_from}
-use Rattle.stored.specs.Model.{is_rep_in}
-use Rattle.rows.specs.Maps.{reached}
-use Rattle.lists.proofs.Laws.Numbers.{UpFrom, up_from_lem, up_passed, up_failed, up_over}
-use Rattle.rows.proofs.Laws.Inverse.{reached_alias, reached_there, reached_nowhere}
+use Rattle.lists.proofs.Laws.Numbers.{up_from_lem, up_over}
 use Rattle.rows.proofs.inverse.is_onto.Invariants.{alias, more, stop}
 use Rattle.rows.proofs.inverse.is_onto.Goals as goal
 

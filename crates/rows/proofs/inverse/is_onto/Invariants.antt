@@ -2,7 +2,6 @@
 -- left. Assumes nothing.
 use Prim.Native.Nat.{ℕ, ◌+◌, ◌-◌, ◌<◌, ◌≤◌}
 use mathlib.Core.Path.{◌≡◌, sym, ◌∙◌}
-use mathlib.Core.Logic.{⊎_elim}
 use mathlib.Core.Bool.{Bool, true, false}
 use mathlib.Core.List.{List}
 use native.Mathlib.Omega.{arith}
@@ -13,7 +12,7 @@ use Rattle.lists.specs.First.{first_at}
 use Rattle.lists.specs.Numbers.{up_from}
 use Rattle.stored.specs.Model.{is_rep_in}
 use Rattle.rows.specs.Maps.{reached}
-use Rattle.lists.proofs.Laws.Numbers.{UpFrom, up_from_lem, up_passed, up_failed, up_over}
+use Rattle.lists.proofs.Laws.Numbers.{UpFrom, up_passed, up_failed}
 use Rattle.rows.proofs.Laws.Inverse.{reached_alias, reached_there, reached_nowhere}
 use Rattle.rows.proofs.inverse.is_onto.Given as goal
 

@@ -1,16 +1,6 @@
 use Rattle.rows.proofs.inverse.one_to_one.Goals.{then-y+else-first_at-x, else-y}
-use Prim.Native.Nat.{ℕ, ◌+◌, ◌-◌, ◌<◌}
-use mathlib.Core.Path.{◌≡◌, sym, ◌∙◌}
-use mathlib.Core.Logic.{⊎_elim}
-use mathlib.Core.Bool.{false}
-use mathlib.Core.List.{List}
-use lib.Dec.{eqb}
-use lib.ListN.{length, get_or}
-use Rattle.lists.specs.First.{first_at}
-use Rattle.rows.specs.Maps.{alone, one_to_one}
-use Rattle.lists.proofs.Laws.Every.{get_d_inside}
-use Rattle.lists.proofs.Laws.Numbers.{UpFrom, up_from_lem, up_passed, up_failed, up_over}
-use Rattle.rows.proofs.Laws.Inverse.{alone_none, alone_first, alone_later}
+use Rattle.rows.specs.Maps.{one_to_one}
+use Rattle.lists.proofs.Laws.Numbers.{up_from_lem, up_over}
 use Rattle.rows.proofs.inverse.one_to_one.Invariants.{none, more, stop}
 use Rattle.rows.proofs.inverse.one_to_one.Goals as goal
 

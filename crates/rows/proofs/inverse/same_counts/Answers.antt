@@ -1,28 +1,5 @@
-use Prim.Native.Nat.{ℕ, ◌+◌, ◌-◌, ◌*◌, ◌<◌, ◌≤◌}
-use mathlib.Core.Path.{◌≡◌, sym, ◌∙◌, ap}
-use mathlib.Core.Bool.{Bool, true, false}
-use mathlib.Core.List.{List, map}
 use native.Mathlib.Omega.{arith}
-use borrow.Author.Tests.{eq-eqb, ne_eqb}
-use lib.ListN.{length, get_or}
-use Rattle.lists.specs.First.{firsts}
-use Rattle.lists.specs.Order.{same_row, ascending}
-use Rattle.lists.specs.Part.{part, rows_of}
-use Rattle.stored.specs.declared.layout.Layout.{Layout}
-use Rattle.stored.specs.Limits.{max_relations}
-use Rattle.stored.specs.Model.{relation_at}
-use Rattle.stored.specs.Signature.{Signature, signature, same_signature}
-use Rattle.stored.specs.Canonical.{canonical}
-use Rattle.stored.specs.Reading.{Reads, model_of}
-use Rattle.stored.proofs.Laws.Reading.{roots_inside, relations_is, few_relations}
-use Rattle.stored.proofs.Laws.Signature.{same_signature_lem, signature_length}
-use Rattle.stored.proofs.Laws.Canonical.{RowsThere, rows_there}
-use Rattle.rows.specs.Rows.{through, normal_rows, normal_count}
-use Rattle.rows.specs.Maps.{same_count, same_counts}
-use Rattle.lists.proofs.Laws.Numbers.{UpFrom, up_from_lem, up_passed, up_failed, up_over}
-use Rattle.rows.proofs.Laws.Given.{roots_in, roots_between}
-use Rattle.rows.proofs.Laws.Rows.{rows_at}
-use Rattle.rows.proofs.Laws.Canonical.{relation_formed, canonical_rows}
+use Rattle.stored.proofs.Laws.Reading.{roots_inside}
 use Rattle.rows.proofs.inverse.same_counts.Invariants.{start, done, few, rows_s, rows_t, counted_s, counted_t, stop, more}
 use Rattle.rows.proofs.inverse.same_counts.Goals as goal
 

@@ -16,7 +16,7 @@ use Rattle.stored.specs.Model.{relation_at}
 use Rattle.stored.specs.Signature.{Signature, signature, same_signature}
 use Rattle.stored.specs.Canonical.{canonical}
 use Rattle.stored.specs.Reading.{Reads, model_of}
-use Rattle.stored.proofs.Laws.Reading.{roots_inside, relations_is, few_relations}
+use Rattle.stored.proofs.Laws.Reading.{relations_is, few_relations}
 use Rattle.stored.proofs.Laws.Signature.{same_signature_lem, signature_length}
 use Rattle.stored.proofs.Laws.Canonical.{RowsThere, rows_there}
 use Rattle.rows.specs.Rows.{through, normal_rows, normal_count}

@@ -1,8 +1,5 @@
-use Prim.Native.Nat.{◌-◌}
 use native.Mathlib.Omega.{arith}
-use lib.ListN.{length}
-use Rattle.rows.specs.Maps.{inverse_entry}
-use Rattle.lists.proofs.Laws.Entries.{WrittenTo, written_none, written_length, written_room, written_more, written_all}
+use Rattle.lists.proofs.Laws.Entries.{written_none, written_length, written_room, written_more, written_all}
 use Rattle.rows.proofs.inverse.write_inverse.Goals as goal
 
 pub loop-y-init : goal.loop-y-init

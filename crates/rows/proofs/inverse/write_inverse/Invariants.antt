@@ -1,10 +1,9 @@
 -- `rows::inverse::write_inverse` meets its contract. The invariant: the entries of the elements below y are written over the front; the measure is the
 -- number of elements left. Assumes nothing.
 use Prim.Native.Nat.{◌-◌}
-use native.Mathlib.Omega.{arith}
 use lib.ListN.{length}
 use Rattle.rows.specs.Maps.{inverse_entry}
-use Rattle.lists.proofs.Laws.Entries.{WrittenTo, written_none, written_length, written_room, written_more, written_all}
+use Rattle.lists.proofs.Laws.Entries.{WrittenTo}
 use Rattle.rows.proofs.inverse.write_inverse.Given as goal
 
 abbrev pub invariant-loop-y : goal.invariant-loop-y

@@ -1,9 +1,6 @@
-use Prim.Native.Nat.{◌-◌}
 use mathlib.Core.Path.{sym, ◌∙◌}
 use borrow.Author.Tests.{not-true, not-false}
-use lib.ListN.{length}
-use Rattle.rows.specs.Maps.{entry_in}
-use Rattle.lists.proofs.Laws.Numbers.{UpFrom, up_from_lem, up_passed, up_failed, up_over}
+use Rattle.lists.proofs.Laws.Numbers.{up_from_lem, up_passed, up_failed, up_over}
 use Rattle.rows.proofs.maps.entries_hold.Goals as goal
 
 pub loop-x-init : goal.loop-x-init

@@ -1,11 +1,9 @@
 -- `rows::maps::entries_hold` meets its contract. The invariant: the entries from x on hold where all of them do; the measure is the number of
 -- entries left. Assumes nothing.
 use Prim.Native.Nat.{◌-◌}
-use mathlib.Core.Path.{sym, ◌∙◌}
-use borrow.Author.Tests.{not-true, not-false}
 use lib.ListN.{length}
 use Rattle.rows.specs.Maps.{entry_in}
-use Rattle.lists.proofs.Laws.Numbers.{UpFrom, up_from_lem, up_passed, up_failed, up_over}
+use Rattle.lists.proofs.Laws.Numbers.{UpFrom}
 use Rattle.rows.proofs.maps.entries_hold.Given as goal
 
 abbrev pub invariant-loop-x : goal.invariant-loop-x

@@ -1,6 +1,6 @@
 use Prim.Native.Nat.{◌+◌, ◌-◌, ◌*◌, ◌/◌}
 use native.Mathlib.Omega.{arith}
-use Rattle.rows.proofs.Laws.Starts.{Started, started_none, started_all, started_place, started_inside, started_up, started_down}
+use Rattle.rows.proofs.Laws.Starts.{started_none, started_all, started_place, started_inside, started_up, started_down}
 use Rattle.rows.proofs.packed.first_from.Goals as goal
 
 pub loop-left-init : goal.loop-left-init

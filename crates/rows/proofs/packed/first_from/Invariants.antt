@@ -1,8 +1,6 @@
 -- `rows::packed::first_from` meets its contract. The invariant: the rows before `first` have a lower first entry than x, those past `left` more have not;
 -- the measure is how many are left. Assumes nothing.
-use Prim.Native.Nat.{◌+◌, ◌-◌, ◌*◌, ◌/◌}
-use native.Mathlib.Omega.{arith}
-use Rattle.rows.proofs.Laws.Starts.{Started, started_none, started_all, started_place, started_inside, started_up, started_down}
+use Rattle.rows.proofs.Laws.Starts.{Started}
 use Rattle.rows.proofs.packed.first_from.Given as goal
 
 abbrev pub invariant-loop-left : goal.invariant-loop-left

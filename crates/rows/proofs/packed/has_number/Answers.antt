@@ -1,14 +1,6 @@
 use Rattle.rows.proofs.packed.has_number.Goals.{then-there-number, else-there-number}
-use Prim.Native.Nat.{ℕ, ◌*◌, ◌+◌, ◌-◌, ◌/◌, ◌<◌, ◌≤◌}
-use mathlib.Core.Path.{◌≡◌, ap, ◌∙◌}
-use mathlib.Core.Logic.{⊎_elim}
-use mathlib.Core.List.{List}
 use native.Mathlib.Omega.{arith}
-use lib.Dec.{eqb}
-use Rattle.lists.specs.Part.{part, rows_of}
-use Rattle.lists.proofs.Laws.Part.{part_ends}
-use Rattle.rows.specs.Packed.{packed, has_number}
-use Rattle.rows.proofs.Laws.Packed.{number_at, number_none, Halved, halved_none, halved_fits, halved_length, halved_up, halved_down, halved_all}
+use Rattle.rows.proofs.Laws.Packed.{number_none, halved_none, halved_fits, halved_length}
 use Rattle.rows.proofs.packed.has_number.Invariants.{middle, up, down, one, done}
 use Rattle.rows.proofs.packed.has_number.Goals as goal
 

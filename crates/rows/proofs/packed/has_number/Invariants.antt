@@ -2,14 +2,13 @@
 -- is how many are left. Assumes nothing.
 use Prim.Native.Nat.{ℕ, ◌*◌, ◌+◌, ◌-◌, ◌/◌, ◌<◌, ◌≤◌}
 use mathlib.Core.Path.{◌≡◌, ap, ◌∙◌}
-use mathlib.Core.Logic.{⊎_elim}
 use mathlib.Core.List.{List}
 use native.Mathlib.Omega.{arith}
 use lib.Dec.{eqb}
 use Rattle.lists.specs.Part.{part, rows_of}
 use Rattle.lists.proofs.Laws.Part.{part_ends}
 use Rattle.rows.specs.Packed.{packed, has_number}
-use Rattle.rows.proofs.Laws.Packed.{number_at, number_none, Halved, halved_none, halved_fits, halved_length, halved_up, halved_down, halved_all}
+use Rattle.rows.proofs.Laws.Packed.{number_at, Halved, halved_up, halved_down, halved_all}
 use Rattle.rows.proofs.packed.has_number.Given as goal
 
 module _ {s : List ℕ} {a c number first left : ℕ} (by : Halved s a c number first left) where

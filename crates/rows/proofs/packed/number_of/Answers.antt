@@ -1,8 +1,6 @@
-use Prim.Native.Nat.{◌-◌}
 use mathlib.Core.Path.{refl}
 use native.Mathlib.Omega.{arith}
-use lib.ListN.{length}
-use Rattle.rows.proofs.Laws.Packed.{PackedTo, packed_none, packed_all, packed_room, packed_more}
+use Rattle.rows.proofs.Laws.Packed.{packed_none, packed_all, packed_room, packed_more}
 use Rattle.rows.proofs.packed.number_of.Goals as goal
 
 pub loop-j-init : goal.loop-j-init

@@ -1,10 +1,8 @@
 -- `rows::packed::number_of` meets its contract. The invariant: the number of the first j entries is built; the measure is the number of entries left.
 -- Assumes nothing.
 use Prim.Native.Nat.{◌-◌}
-use mathlib.Core.Path.{refl}
-use native.Mathlib.Omega.{arith}
 use lib.ListN.{length}
-use Rattle.rows.proofs.Laws.Packed.{PackedTo, packed_none, packed_all, packed_room, packed_more}
+use Rattle.rows.proofs.Laws.Packed.{PackedTo}
 use Rattle.rows.proofs.packed.number_of.Given as goal
 
 abbrev pub invariant-loop-j : goal.invariant-loop-j

@@ -1,13 +1,4 @@
-use Prim.Native.Nat.{ℕ, ◌+◌, ◌-◌, ◌*◌, ◌<◌, ◌≤◌}
-use mathlib.Core.Path.{◌≡◌, sym, ◌∙◌}
-use mathlib.Core.List.{List}
 use native.Mathlib.Omega.{arith}
-use lib.ListN.{length, get_or}
-use Rattle.stored.specs.Limits.{max_arity}
-use Rattle.rows.specs.Rows.{through}
-use Rattle.rows.specs.Packed.{packed}
-use Rattle.rows.proofs.Laws.Rows.{length_through, get_d_through}
-use Rattle.rows.proofs.Laws.Packed.{PackedTo, packed_none, packed_all, packed_room, packed_more}
 use Rattle.rows.proofs.packed.number_through.Invariants.{start, done, room, more}
 use Rattle.rows.proofs.packed.number_through.Goals as goal
 

@@ -1,13 +1,5 @@
-use Prim.Native.Nat.{ℕ, ◌-◌, ◌≤◌}
-use mathlib.Core.Path.{◌≡◌, sym, ◌∙◌}
-use mathlib.Core.List.{List, map}
 use native.Mathlib.Omega.{arith}
-use lib.ListN.{length}
-use Rattle.lists.specs.Numbers.{up_from}
-use Rattle.lists.specs.Part.{rows_of}
-use Rattle.lists.proofs.Laws.Over.{over-whole}
-use Rattle.lists.proofs.Laws.Entries.{WrittenTo, written_none, written_more, written_all, length_entries}
-use Rattle.rows.specs.Packed.{start_at}
+use Rattle.lists.proofs.Laws.Entries.{written_more}
 use Rattle.rows.proofs.packed.row_starts.Invariants.{start, done}
 use Rattle.rows.proofs.packed.row_starts.Goals as goal
 

@@ -8,7 +8,7 @@ use lib.ListN.{length}
 use Rattle.lists.specs.Numbers.{up_from}
 use Rattle.lists.specs.Part.{rows_of}
 use Rattle.lists.proofs.Laws.Over.{over-whole}
-use Rattle.lists.proofs.Laws.Entries.{WrittenTo, written_none, written_more, written_all, length_entries}
+use Rattle.lists.proofs.Laws.Entries.{WrittenTo, written_none, written_all, length_entries}
 use Rattle.rows.specs.Packed.{start_at}
 use Rattle.rows.proofs.packed.row_starts.Given as goal
 

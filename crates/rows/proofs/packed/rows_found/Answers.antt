@@ -1,12 +1,8 @@
-use Prim.Native.Nat.{ℕ}
 use mathlib.Core.Path.{sym, ◌∙◌}
-use mathlib.Core.Bool.{Bool}
-use mathlib.Core.List.{List}
 use native.Mathlib.Omega.{arith}
 use borrow.Author.Tests.{not-true, not-false}
-use Rattle.lists.specs.Part.{rows_of}
-use Rattle.lists.proofs.Laws.Part.{RowsFrom, rows_from_lem, rows_over, row_fits, row_length, rows_passed, rows_failed}
-use Rattle.rows.specs.Rows.{through, has_row, rows_kept}
+use Rattle.lists.proofs.Laws.Part.{rows_from_lem, rows_over, row_fits, row_length, rows_passed, rows_failed}
+use Rattle.rows.specs.Rows.{rows_kept}
 use Rattle.rows.proofs.packed.rows_found.Goals as goal
 
 pub row_starts-starts-requires : goal.row_starts-starts-requires

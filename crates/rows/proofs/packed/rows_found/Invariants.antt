@@ -1,14 +1,11 @@
 -- `rows::packed::rows_found` meets its contract. The invariant: `left` rows stand from the offset `at` on, and they are among the others where all rows
 -- are; the measure is the number of rows left. Assumes nothing.
 use Prim.Native.Nat.{ℕ}
-use mathlib.Core.Path.{sym, ◌∙◌}
 use mathlib.Core.Bool.{Bool}
 use mathlib.Core.List.{List}
-use native.Mathlib.Omega.{arith}
-use borrow.Author.Tests.{not-true, not-false}
 use Rattle.lists.specs.Part.{rows_of}
-use Rattle.lists.proofs.Laws.Part.{RowsFrom, rows_from_lem, rows_over, row_fits, row_length, rows_passed, rows_failed}
-use Rattle.rows.specs.Rows.{through, has_row, rows_kept}
+use Rattle.lists.proofs.Laws.Part.{RowsFrom}
+use Rattle.rows.specs.Rows.{through, has_row}
 use Rattle.rows.proofs.packed.rows_found.Given as goal
 
 -- whether a row, taken through the table, is among the others

@@ -1,23 +1,7 @@
-use Prim.Native.Nat.{ℕ, ◌+◌, ◌-◌, ◌*◌, ◌<◌, ◌≤◌}
-use mathlib.Core.Path.{◌≡◌, refl, sym, ◌∙◌, ap, ap₂}
-use mathlib.Core.Bool.{Bool, true, false}
-use mathlib.Core.List.{List}
+use mathlib.Core.Path.{◌∙◌}
 use native.Mathlib.Omega.{arith}
-use lib.ListN.{length, get_or, set, length-set}
-use Rattle.lists.specs.Numbers.{sum}
-use Rattle.stored.specs.declared.refusal.Refusal.{Refusal}
-use Rattle.stored.specs.declared.refusal.Refusal.TheVariants.{ConflictingImages}
-use Rattle.stored.specs.declared.layout.Layout.{Layout}
-use Rattle.stored.specs.Limits.{max_elements}
-use Rattle.stored.specs.Model.{size, root_of}
-use Rattle.stored.specs.Reading.{Reads, model_of}
-use Rattle.stored.proofs.Laws.Reading.{reads_formed, size_is, types_inside}
-use Rattle.rows.specs.declared.pairs.Pair.{Pair}
-use Rattle.rows.specs.declared.pairs.Pair.TheVariants as pair
-use Rattle.rows.specs.Pairs.{pair_count, left_at, right_at, pair_in, pair_at, refused, conflicts, give_from, given_by}
-use Rattle.stored.proofs.Laws.Lookup.{root_inside, root_at, root_at_known}
-use Rattle.rows.proofs.Laws.Given.{types_in, types_between, types_few}
-use Rattle.rows.proofs.Laws.Pairs.{pair_inside, pair_known, give_end, give_bad, give_conflict, give_next, given_good, given_bad}
+use Rattle.stored.proofs.Laws.Reading.{types_inside}
+use Rattle.rows.proofs.Laws.Given.{types_few}
 use Rattle.rows.proofs.pairs.give.Invariants.{counted_types, answer, good_pair, start, done, in_pairs, bad, stop, more}
 use Rattle.rows.proofs.pairs.give.Goals as goal
 

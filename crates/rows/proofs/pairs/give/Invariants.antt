@@ -13,12 +13,12 @@ use Rattle.stored.specs.declared.layout.Layout.{Layout}
 use Rattle.stored.specs.Limits.{max_elements}
 use Rattle.stored.specs.Model.{size, root_of}
 use Rattle.stored.specs.Reading.{Reads, model_of}
-use Rattle.stored.proofs.Laws.Reading.{reads_formed, size_is, types_inside}
+use Rattle.stored.proofs.Laws.Reading.{reads_formed, size_is}
 use Rattle.rows.specs.declared.pairs.Pair.{Pair}
 use Rattle.rows.specs.declared.pairs.Pair.TheVariants as pair
 use Rattle.rows.specs.Pairs.{pair_count, left_at, right_at, pair_in, pair_at, refused, conflicts, give_from, given_by}
 use Rattle.stored.proofs.Laws.Lookup.{root_inside, root_at, root_at_known}
-use Rattle.rows.proofs.Laws.Given.{types_in, types_between, types_few}
+use Rattle.rows.proofs.Laws.Given.{types_in, types_between}
 use Rattle.rows.proofs.Laws.Pairs.{pair_inside, pair_known, give_end, give_bad, give_conflict, give_next, given_good, given_bad}
 use Rattle.rows.proofs.pairs.give.Given as goal
 

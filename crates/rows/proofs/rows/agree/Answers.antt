@@ -1,15 +1,4 @@
-use Prim.Native.Nat.{ℕ, ◌<◌, ◌≤◌, ◌+◌, ◌-◌}
-use mathlib.Core.Path.{◌≡◌, sym, ◌∙◌}
-use mathlib.Core.Bool.{true, false}
-use mathlib.Core.List.{List}
 use native.Mathlib.Omega.{arith}
-use borrow.Author.Tests.{eq-eqb, ne_eqb}
-use lib.Dec.{eqb}
-use lib.ListN.{length, get_or}
-use Rattle.lists.specs.Order.{same_row}
-use Rattle.lists.proofs.Laws.Every.{pairwise_lengths, PairsFrom, pairs_from_lem, pairs_passed, pairs_failed, pairs_over}
-use Rattle.rows.specs.Rows.{through}
-use Rattle.rows.proofs.Laws.Rows.{length_through, get_d_through}
 use Rattle.rows.proofs.rows.agree.Invariants.{unequal, start, done, other_inside, stop, more}
 use Rattle.rows.proofs.rows.agree.Goals as goal
 

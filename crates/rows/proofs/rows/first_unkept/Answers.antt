@@ -1,24 +1,5 @@
-use Prim.Native.Nat.{ℕ, ◌+◌, ◌-◌, ◌<◌, ◌≤◌}
-use mathlib.Core.Path.{◌≡◌, sym, ap, ◌∙◌}
-use mathlib.Core.Bool.{Bool, true, false, not}
-use mathlib.Core.List.{List, map}
 use native.Mathlib.Omega.{arith}
-use lib.ListN.{length, get_or}
-use Rattle.lists.specs.Order.{ascending}
-use Rattle.lists.specs.Part.{rows_of}
-use Rattle.stored.specs.declared.layout.Layout.{Layout}
-use Rattle.stored.specs.Limits.{max_relations, max_arity}
-use Rattle.stored.specs.Model.{relation_at}
-use Rattle.stored.specs.Canonical.{canonical}
-use Rattle.stored.specs.Reading.{model_of}
-use Rattle.stored.proofs.Laws.Reading.{roots_inside, relations_is, relation_there, few_relations}
-use Rattle.stored.proofs.Laws.WellFormed.{RelationFormed}
-use Rattle.stored.proofs.Laws.Canonical.{RowsThere, rows_there}
-use Rattle.rows.specs.Rows.{through, rows_kept, kept_by, first_unkept_by}
-use Rattle.lists.proofs.Laws.First.{LowestFrom, lowest-from, lowest_passed, lowest_found, lowest-over}
-use Rattle.rows.proofs.Laws.Given.{roots_in, roots_between}
-use Rattle.rows.proofs.Laws.Rows.{kept_rows, unkept, lowest_unkept, rows_at, Alike, as_many_relations, same_arity, target_rows}
-use Rattle.rows.proofs.Laws.Canonical.{relation_formed, canonical_rows}
+use Rattle.stored.proofs.Laws.Reading.{roots_inside}
 use Rattle.rows.proofs.rows.first_unkept.Invariants.{start, done, few, rows, others, short, others_ascend, others_plain, stop, more}
 use Rattle.rows.proofs.rows.first_unkept.Goals as goal
 

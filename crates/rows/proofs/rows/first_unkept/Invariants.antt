@@ -13,7 +13,7 @@ use Rattle.stored.specs.Limits.{max_relations, max_arity}
 use Rattle.stored.specs.Model.{relation_at}
 use Rattle.stored.specs.Canonical.{canonical}
 use Rattle.stored.specs.Reading.{model_of}
-use Rattle.stored.proofs.Laws.Reading.{roots_inside, relations_is, relation_there, few_relations}
+use Rattle.stored.proofs.Laws.Reading.{relations_is, relation_there, few_relations}
 use Rattle.stored.proofs.Laws.WellFormed.{RelationFormed}
 use Rattle.stored.proofs.Laws.Canonical.{RowsThere, rows_there}
 use Rattle.rows.specs.Rows.{through, rows_kept, kept_by, first_unkept_by}

@@ -1,8 +1,7 @@
 use mathlib.Core.Path.{sym, ◌∙◌}
 use native.Mathlib.Omega.{arith}
-use Rattle.rows.specs.Rows.{through}
-use Rattle.lists.proofs.Laws.Part.{SomeRow, some_from, some_over, some_fits, some_found, some_passed}
-use Rattle.rows.proofs.Laws.Rows.{is_through, some_through}
+use Rattle.lists.proofs.Laws.Part.{some_from, some_over, some_fits, some_found, some_passed}
+use Rattle.rows.proofs.Laws.Rows.{some_through}
 use Rattle.rows.proofs.rows.has_row.Goals as goal
 
 pub loop-left-init : goal.loop-left-init

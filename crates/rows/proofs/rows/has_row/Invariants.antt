@@ -1,10 +1,8 @@
 -- `rows::rows::has_row` meets its contract. The invariant: `left` rows stand from the offset `at` on, and the row is among them where it is among
 -- all; the measure is the number of rows left. Assumes nothing.
-use mathlib.Core.Path.{sym, ◌∙◌}
-use native.Mathlib.Omega.{arith}
 use Rattle.rows.specs.Rows.{through}
-use Rattle.lists.proofs.Laws.Part.{SomeRow, some_from, some_over, some_fits, some_found, some_passed}
-use Rattle.rows.proofs.Laws.Rows.{is_through, some_through}
+use Rattle.lists.proofs.Laws.Part.{SomeRow}
+use Rattle.rows.proofs.Laws.Rows.{is_through}
 use Rattle.rows.proofs.rows.has_row.Given as goal
 
 abbrev pub invariant-loop-left : goal.invariant-loop-left

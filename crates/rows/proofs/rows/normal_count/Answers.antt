@@ -1,22 +1,5 @@
 use Rattle.rows.proofs.rows.normal_count.Goals.{then-not-has_row, else-not-has_row}
-use Prim.Native.Nat.{ℕ, ◌+◌, ◌-◌, ◌*◌, ◌<◌, ◌≤◌}
-use mathlib.Core.Path.{◌≡◌, refl, sym, ap, ◌∙◌}
-use mathlib.Core.Logic.{⊎_elim}
-use mathlib.Core.Bool.{Bool, true, false}
-use mathlib.Core.List.{List, [], ◌∷◌, ◌++◌, map, map-append}
 use native.Mathlib.Omega.{arith}
-use native.Mathlib.Nat.{suc-mul}
-use native.Mathlib.Numerals.{add-one}
-use borrow.Author.Tests.{not-true, not-false}
-use lib.ListN.{length, length-append}
-use Rattle.lists.specs.Every.{any}
-use Rattle.lists.specs.First.{firsts}
-use Rattle.lists.specs.Order.{same_row}
-use Rattle.lists.specs.Part.{part, rows_of}
-use Rattle.lists.proofs.Laws.Part.{rows_less, part_ends, rows_of_more}
-use Rattle.rows.specs.Rows.{through, has_row}
-use Rattle.lists.proofs.Laws.Firsts.{firsts_new, firsts_known}
-use Rattle.lists.proofs.Laws.Order.{same_either}
 use Rattle.rows.proofs.rows.normal_count.Invariants.{start, done, front, row_fits, known, new}
 use Rattle.rows.proofs.rows.normal_count.Goals as goal
 

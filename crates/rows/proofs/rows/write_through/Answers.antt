@@ -1,12 +1,5 @@
-use Prim.Native.Nat.{ℕ, ◌<◌, ◌≤◌, ◌+◌, ◌-◌}
-use mathlib.Core.Path.{◌≡◌, sym, ◌∙◌}
-use mathlib.Core.List.{List}
 use native.Mathlib.Omega.{arith}
-use lib.ListN.{length, get_or, set}
-use Rattle.lists.specs.Part.{over}
-use Rattle.rows.specs.Rows.{through}
-use Rattle.lists.proofs.Laws.Over.{Written, written_none, written_length, written_more, written_all}
-use Rattle.rows.proofs.Laws.Rows.{length_through, get_d_through}
+use Rattle.lists.proofs.Laws.Over.{written_length}
 use Rattle.rows.proofs.rows.write_through.Invariants.{start, done, room, more}
 use Rattle.rows.proofs.rows.write_through.Goals as goal
 

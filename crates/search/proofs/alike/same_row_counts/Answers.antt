@@ -1,7 +1,5 @@
-use Prim.Native.Nat.{◌-◌}
 use native.Mathlib.Omega.{arith}
-use Rattle.lists.proofs.Laws.Numbers.{UpFrom, up_from_lem, up_passed, up_failed, up_over}
-use Rattle.search.specs.Find.{same_count_in}
+use Rattle.lists.proofs.Laws.Numbers.{up_from_lem, up_passed, up_failed, up_over}
 use Rattle.search.proofs.Laws.Alike.{same_count_lem, other_count}
 use Rattle.search.proofs.alike.same_row_counts.Goals as goal
 

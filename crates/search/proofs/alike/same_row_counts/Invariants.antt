@@ -1,10 +1,8 @@
 -- `search::alike::same_row_counts` meets its contract. The invariant: the relations from k on have as many rows on both sides where all have; the
 -- measure is the number of relations left. Assumes nothing.
 use Prim.Native.Nat.{◌-◌}
-use native.Mathlib.Omega.{arith}
-use Rattle.lists.proofs.Laws.Numbers.{UpFrom, up_from_lem, up_passed, up_failed, up_over}
+use Rattle.lists.proofs.Laws.Numbers.{UpFrom}
 use Rattle.search.specs.Find.{same_count_in}
-use Rattle.search.proofs.Laws.Alike.{same_count_lem, other_count}
 use Rattle.search.proofs.alike.same_row_counts.Given as goal
 
 abbrev pub invariant-loop-k : goal.invariant-loop-k

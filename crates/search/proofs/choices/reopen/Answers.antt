@@ -1,8 +1,7 @@
 use Prim.Native.Nat.{◌+◌, ◌-◌, ◌*◌}
 use native.Mathlib.Omega.{arith}
-use Rattle.stored.specs.Reading.{model_of}
 use Rattle.stored.proofs.Laws.Reading.{size_is}
-use Rattle.search.proofs.Laws.Choices.{Closed, closed_none, closed_all, closed_found, closed_more}
+use Rattle.search.proofs.Laws.Choices.{closed_none, closed_all, closed_found, closed_more}
 use Rattle.search.proofs.choices.reopen.Goals as goal
 
 pub loop-left-init : goal.loop-left-init

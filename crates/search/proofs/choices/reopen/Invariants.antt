@@ -1,10 +1,7 @@
 -- `search::choices::reopen` meets its contract. The invariant: the choices above the first `left` have no candidate left; the measure is `left`.
 -- Assumes nothing.
-use Prim.Native.Nat.{◌+◌, ◌-◌, ◌*◌}
-use native.Mathlib.Omega.{arith}
 use Rattle.stored.specs.Reading.{model_of}
-use Rattle.stored.proofs.Laws.Reading.{size_is}
-use Rattle.search.proofs.Laws.Choices.{Closed, closed_none, closed_all, closed_found, closed_more}
+use Rattle.search.proofs.Laws.Choices.{Closed}
 use Rattle.search.proofs.choices.reopen.Given as goal
 
 abbrev pub invariant-loop-left : goal.invariant-loop-left

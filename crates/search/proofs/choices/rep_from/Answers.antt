@@ -1,8 +1,5 @@
-use Prim.Native.Nat.{◌-◌}
 use mathlib.Core.Path.{sym, ◌∙◌}
-use lib.ListN.{length}
-use Rattle.stored.specs.Model.{is_rep_in}
-use Rattle.search.proofs.Laws.Choices.{FirstRep, rep_start, rep_passed, rep_found, rep_over}
+use Rattle.search.proofs.Laws.Choices.{rep_start, rep_passed, rep_found, rep_over}
 use Rattle.search.proofs.choices.rep_from.Goals as goal
 
 pub loop-y-init : goal.loop-y-init

@@ -1,10 +1,9 @@
 -- `search::choices::rep_from` meets its contract. The invariant: the first representative from y on is the first from `from` on; the measure is the
 -- number of elements left. Assumes nothing.
 use Prim.Native.Nat.{◌-◌}
-use mathlib.Core.Path.{sym, ◌∙◌}
 use lib.ListN.{length}
 use Rattle.stored.specs.Model.{is_rep_in}
-use Rattle.search.proofs.Laws.Choices.{FirstRep, rep_start, rep_passed, rep_found, rep_over}
+use Rattle.search.proofs.Laws.Choices.{FirstRep}
 use Rattle.search.proofs.choices.rep_from.Given as goal
 
 abbrev pub invariant-loop-y : goal.invariant-loop-y

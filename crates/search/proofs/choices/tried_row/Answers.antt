@@ -1,6 +1,5 @@
-use Prim.Native.Nat.{◌-◌}
 use mathlib.Core.Path.{refl}
-use Rattle.search.proofs.Laws.Choices.{Loaded, loaded_none, loaded_more, loaded_all}
+use Rattle.search.proofs.Laws.Choices.{loaded_none, loaded_more, loaded_all}
 use Rattle.search.proofs.choices.tried_row.Goals as goal
 
 pub loop-i-init : goal.loop-i-init

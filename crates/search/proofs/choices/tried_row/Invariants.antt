@@ -1,8 +1,7 @@
 -- `search::choices::tried_row` meets its contract. The invariant: the first i entries are loaded; the measure is the number of entries left.
 -- Assumes nothing.
 use Prim.Native.Nat.{◌-◌}
-use mathlib.Core.Path.{refl}
-use Rattle.search.proofs.Laws.Choices.{Loaded, loaded_none, loaded_more, loaded_all}
+use Rattle.search.proofs.Laws.Choices.{Loaded}
 use Rattle.search.proofs.choices.tried_row.Given as goal
 
 abbrev pub invariant-loop-i : goal.invariant-loop-i

@@ -1,6 +1,4 @@
-use Prim.Native.Nat.{◌-◌}
-use lib.ListN.{length}
-use Rattle.search.proofs.Laws.Choices.{Pasted, pasted_none, pasted_more, pasted_all}
+use Rattle.search.proofs.Laws.Choices.{pasted_none, pasted_more, pasted_all}
 use Rattle.search.proofs.choices.write_row.Goals as goal
 
 pub loop-i-init : goal.loop-i-init

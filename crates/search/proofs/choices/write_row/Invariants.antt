@@ -2,7 +2,7 @@
 -- left. Assumes nothing.
 use Prim.Native.Nat.{◌-◌}
 use lib.ListN.{length}
-use Rattle.search.proofs.Laws.Choices.{Pasted, pasted_none, pasted_more, pasted_all}
+use Rattle.search.proofs.Laws.Choices.{Pasted}
 use Rattle.search.proofs.choices.write_row.Given as goal
 
 abbrev pub invariant-loop-i : goal.invariant-loop-i

@@ -1,28 +1,6 @@
-use Prim.Native.Nat.{ℕ, ◌+◌, ◌-◌, ◌<◌, ◌≤◌}
-use mathlib.Core.Path.{◌≡◌, sym, ap, ◌∙◌}
-use mathlib.Core.Bool.{Bool, true, false}
-use mathlib.Core.List.{List, map}
 use native.Mathlib.Omega.{arith}
-use borrow.Author.Tests.{not-true, not-false}
-use lib.ListN.{length, get_or}
-use Rattle.lists.specs.Order.{ascending}
-use Rattle.lists.specs.Part.{rows_of}
-use Rattle.lists.proofs.Laws.Numbers.{UpFrom, up_from_lem, up_passed, up_failed, up_over}
-use Rattle.stored.specs.declared.layout.Layout.{Layout}
-use Rattle.stored.specs.Limits.{max_relations, max_arity}
-use Rattle.stored.specs.Model.{relation_at}
-use Rattle.stored.specs.Reading.{model_of}
-use Rattle.stored.proofs.Laws.Reading.{reads_formed, roots_inside, relations_is, relation_there, few_relations}
-use Rattle.stored.proofs.Laws.WellFormed.{RelationFormed}
-use Rattle.stored.proofs.Laws.Canonical.{RowsThere, rows_there}
-use Rattle.rows.specs.Rows.{through, rows_kept}
-use Rattle.rows.proofs.Laws.Given.{roots_in, roots_between}
-use Rattle.rows.proofs.Laws.Rows.{rows_at, Alike, as_many_relations, same_arity, target_rows}
-use Rattle.rows.proofs.Laws.Canonical.{relation_formed, canonical_rows}
-use Rattle.search.specs.Machine.{closes_at, closes}
-use Rattle.search.specs.Closing.{OneToOne}
-use Rattle.search.proofs.Laws.Closing.{into, not_into, into_closes}
-use Rattle.search.proofs.Theorems.Onto.{AlikeModels}
+use Rattle.lists.proofs.Laws.Numbers.{up_from_lem}
+use Rattle.stored.proofs.Laws.Reading.{reads_formed, roots_inside}
 use Rattle.search.proofs.closing.closes.Invariants.{done, few, rows, others, short, among_ascend, among_plain, stop, more}
 use Rattle.search.proofs.closing.closes.Goals as goal
 

@@ -5,16 +5,15 @@ use mathlib.Core.Path.{◌≡◌, sym, ap, ◌∙◌}
 use mathlib.Core.Bool.{Bool, true, false}
 use mathlib.Core.List.{List, map}
 use native.Mathlib.Omega.{arith}
-use borrow.Author.Tests.{not-true, not-false}
 use lib.ListN.{length, get_or}
 use Rattle.lists.specs.Order.{ascending}
 use Rattle.lists.specs.Part.{rows_of}
-use Rattle.lists.proofs.Laws.Numbers.{UpFrom, up_from_lem, up_passed, up_failed, up_over}
+use Rattle.lists.proofs.Laws.Numbers.{UpFrom, up_passed, up_failed, up_over}
 use Rattle.stored.specs.declared.layout.Layout.{Layout}
 use Rattle.stored.specs.Limits.{max_relations, max_arity}
 use Rattle.stored.specs.Model.{relation_at}
 use Rattle.stored.specs.Reading.{model_of}
-use Rattle.stored.proofs.Laws.Reading.{reads_formed, roots_inside, relations_is, relation_there, few_relations}
+use Rattle.stored.proofs.Laws.Reading.{relations_is, relation_there, few_relations}
 use Rattle.stored.proofs.Laws.WellFormed.{RelationFormed}
 use Rattle.stored.proofs.Laws.Canonical.{RowsThere, rows_there}
 use Rattle.rows.specs.Rows.{through, rows_kept}

@@ -1,7 +1,4 @@
-use Prim.Native.Nat.{◌-◌}
-use lib.ListN.{length}
-use Rattle.lists.proofs.Laws.Entries.{WrittenTo, written_none, written_length, written_room, written_more, written_all}
-use Rattle.search.specs.Machine.{image_in}
+use Rattle.lists.proofs.Laws.Entries.{written_none, written_length, written_room, written_more, written_all}
 use Rattle.search.proofs.closing.write_map.Goals as goal
 
 pub loop-x-init : goal.loop-x-init

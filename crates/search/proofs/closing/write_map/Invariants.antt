@@ -2,7 +2,7 @@
 -- number of elements left. Assumes nothing.
 use Prim.Native.Nat.{◌-◌}
 use lib.ListN.{length}
-use Rattle.lists.proofs.Laws.Entries.{WrittenTo, written_none, written_length, written_room, written_more, written_all}
+use Rattle.lists.proofs.Laws.Entries.{WrittenTo}
 use Rattle.search.specs.Machine.{image_in}
 use Rattle.search.proofs.closing.write_map.Given as goal
 

@@ -1,7 +1,6 @@
 -- `search::find::find_paired` meets its contract: the pairs give partners, in the fronts of two blank tables, or clash. In what follows k is the place
 -- where both tables are made, g the place after the partners are given. Assumes nothing.
 use mathlib.Core.Path.{◌∙◌, ap}
-use borrow.Author.Tests.{not-true, not-false}
 use Rattle.search.specs.Answer.{ended}
 use Rattle.search.specs.Find.{searched}
 use Rattle.search.proofs.Laws.Outcome.{gives_none, passes_on}

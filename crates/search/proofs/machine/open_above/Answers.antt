@@ -1,8 +1,5 @@
 -- `search::machine::open_above` meets its contract: the part of the lent work for the choices is handed on, and comes back. Assumes nothing.
-use mathlib.Core.List.{◌++◌}
-use lib.ListN.{take, drop}
-use Rattle.rounds.specs.Board.{board_room}
-use Rattle.search.proofs.Laws.Refine.{choices_room, ChoicesBack, choices_back, back_opened, back_kept}
+use Rattle.search.proofs.Laws.Refine.{choices_room, choices_back, back_opened, back_kept}
 use Rattle.search.proofs.machine.open_above.Goals as goal
 
 pub slice_bounds-open_choice-end : goal.slice_bounds-open_choice-end

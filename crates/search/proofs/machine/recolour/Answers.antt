@@ -1,8 +1,5 @@
 -- `search::machine::recolour` meets its contract: the front of the lent work is handed on as the board, and comes back. Assumes nothing.
-use mathlib.Core.List.{◌++◌}
-use lib.ListN.{drop}
-use Rattle.rounds.specs.Board.{board_room}
-use Rattle.search.proofs.Laws.Refine.{rounded_sides, BoardBack, board_back, board_kept}
+use Rattle.search.proofs.Laws.Refine.{rounded_sides, board_back, board_kept}
 use Rattle.search.proofs.machine.recolour.Goals as goal
 
 pub round-requires : goal.round-requires

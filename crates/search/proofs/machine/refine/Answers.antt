@@ -1,11 +1,9 @@
 -- `search::machine::refine` meets its contract: one round, and what its colours come to. In what follows r is the place
 -- after the round, t after the weighing. Assumes nothing.
-use Prim.Native.Nat.{◌≤◌}
 use mathlib.Core.Path.{◌∙◌}
 use mathlib.Core.List.{[]}
 use native.Mathlib.Omega.{arith}
-use lib.ListN.{length, get_or}
-use Rattle.search.specs.Answer.{work_room}
+use lib.ListN.{get_or}
 use Rattle.search.proofs.Laws.Refine.{side_room, side_front, side_long, left_small, right_small, rounded_small, weighed_sides, refined_state, refined_kept}
 use Rattle.search.proofs.machine.refine.Goals as goal
 

@@ -1,10 +1,9 @@
-use Prim.Native.Nat.{◌-◌}
 use mathlib.Core.Path.{refl, ◌∙◌, ap}
 use native.Mathlib.Omega.{arith}
 use lib.ListN.{length}
 use Rattle.stored.specs.Reading.{model_of}
 use Rattle.rows.proofs.Laws.Given.{size_few}
-use Rattle.search.proofs.Laws.Machine.{Carried, start_small, carried_start, carried_past, Running, running_start, depth_few, work_room_lem, round_small, round_out, round_on, check_one_to_one, check_out, check_found, check_on, choice_none, choice_out, element_known, stay_few, candidate_there, choice_same, choice_counted, choice_other}
+use Rattle.search.proofs.Laws.Machine.{start_small, carried_start, carried_past, running_start, depth_few, work_room_lem, round_small, round_out, round_on, check_one_to_one, check_out, check_found, check_on, choice_none, choice_out, element_known, stay_few, candidate_there, choice_same, choice_counted, choice_other}
 use Rattle.search.proofs.machine.run.Goals as goal
 
 pub first_count-count-requires : goal.first_count-count-requires

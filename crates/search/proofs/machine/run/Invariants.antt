@@ -2,12 +2,8 @@
 -- the left's colours (`Carried`); the measure is the number of units left. In what follows r is what is known at the head of the loop, q
 -- which phase it is, o the place where it is known how many choices stay open, k what is known once a candidate was looked at. Assumes nothing.
 use Prim.Native.Nat.{◌-◌}
-use mathlib.Core.Path.{refl, ◌∙◌, ap}
-use native.Mathlib.Omega.{arith}
-use lib.ListN.{length}
 use Rattle.stored.specs.Reading.{model_of}
-use Rattle.rows.proofs.Laws.Given.{size_few}
-use Rattle.search.proofs.Laws.Machine.{Carried, start_small, carried_start, carried_past, Running, running_start, depth_few, work_room_lem, round_small, round_out, round_on, check_one_to_one, check_out, check_found, check_on, choice_none, choice_out, element_known, stay_few, candidate_there, choice_same, choice_counted, choice_other}
+use Rattle.search.proofs.Laws.Machine.{Carried, Running}
 use Rattle.search.proofs.machine.run.Given as goal
 
 abbrev pub invariant-loop-phase : goal.invariant-loop-phase

@@ -1,8 +1,5 @@
 -- `search::machine::try_latest` meets its contract: the part of the lent work for the choices is handed on, and comes back. Assumes nothing.
-use mathlib.Core.List.{◌++◌}
-use lib.ListN.{take, drop}
-use Rattle.rounds.specs.Board.{board_room}
-use Rattle.search.proofs.Laws.Refine.{choices_fit, ChoicesBack, choices_back, back_looked, back_kept}
+use Rattle.search.proofs.Laws.Refine.{choices_fit, choices_back, back_looked, back_kept}
 use Rattle.search.proofs.machine.try_latest.Goals as goal
 
 pub slice_bounds-try_choice-end : goal.slice_bounds-try_choice-end

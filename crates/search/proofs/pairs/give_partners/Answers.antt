@@ -1,17 +1,4 @@
-use Prim.Native.Nat.{ℕ, ◌+◌, ◌-◌, ◌<◌, ◌≤◌}
-use mathlib.Core.Path.{◌≡◌, refl, sym, ◌∙◌, ap₂}
-use mathlib.Core.Bool.{Bool, true, false}
-use mathlib.Core.List.{List}
 use native.Mathlib.Omega.{arith}
-use lib.ListN.{length, get_or, set, length-set}
-use Rattle.stored.specs.declared.layout.Layout.{Layout}
-use Rattle.stored.specs.Model.{root_of}
-use Rattle.stored.specs.Reading.{Reads, model_of}
-use Rattle.rows.specs.declared.pairs.Pair.TheVariants as pair
-use Rattle.rows.specs.Pairs.{pair_count, left_at, right_at, conflicts}
-use Rattle.search.specs.Partners.{pairs_from, partners_from, partners_by}
-use Rattle.search.proofs.Laws.Pairs.{partners_end, partners_left_clash, partners_right_clash, partners_next, partners_good, partners_clash, PairThere, pair_there}
-use Rattle.search.proofs.Theorems.Partners.{all_good}
 use Rattle.search.proofs.pairs.give_partners.Invariants.{start, done, in_pairs, known, stop_left, stop_right, more}
 use Rattle.search.proofs.pairs.give_partners.Goals as goal
 

@@ -1,18 +1,7 @@
-use Prim.Native.Nat.{ℕ, ◌+◌, ◌-◌, ◌<◌, ◌≤◌}
-use mathlib.Core.Path.{◌≡◌, refl, sym, ◌∙◌, ap₂}
-use mathlib.Core.List.{List}
+use mathlib.Core.Path.{◌∙◌}
 use native.Mathlib.Omega.{arith}
-use Rattle.lists.specs.Numbers.{sum}
-use Rattle.stored.specs.declared.refusal.Refusal.{Refusal}
-use Rattle.stored.specs.declared.layout.Layout.{Layout}
-use Rattle.stored.specs.Reading.{Reads, model_of}
-use Rattle.stored.proofs.Laws.Reading.{size_is, types_inside}
-use Rattle.rows.specs.declared.pairs.Pair.{Pair}
-use Rattle.rows.specs.declared.pairs.Pair.TheVariants as pair
-use Rattle.rows.specs.Pairs.{pair_count, pair_in, pair_at}
-use Rattle.rows.proofs.Laws.Given.{types_in, types_between, types_few}
-use Rattle.search.specs.Partners.{pairs_from}
-use Rattle.search.proofs.Laws.Pairs.{pairs_end, pairs_bad, pairs_next}
+use Rattle.stored.proofs.Laws.Reading.{types_inside}
+use Rattle.rows.proofs.Laws.Given.{types_few}
 use Rattle.search.proofs.pairs.pairs_hold.Invariants.{counted_types, answer, start, done, in_pairs, bad, more}
 use Rattle.search.proofs.pairs.pairs_hold.Goals as goal
 

@@ -1,19 +1,5 @@
 use Rattle.search.proofs.pairs.write_pairs_under.Goals.{then-is_rep, else-is_rep}
-use Prim.Native.Nat.{ℕ, ◌+◌, ◌-◌, ◌*◌, ◌<◌, ◌≤◌}
-use mathlib.Core.Path.{◌≡◌, sym, ◌∙◌, ap}
-use mathlib.Core.Logic.{⊎_elim}
-use mathlib.Core.Bool.{Bool, true, false}
-use mathlib.Core.List.{List, [], ◌∷◌, ◌++◌, append_assoc}
 use native.Mathlib.Omega.{arith}
-use lib.ListN.{length, get_or, set, length-append, length-set}
-use Rattle.lists.specs.Every.{keep}
-use Rattle.lists.specs.Numbers.{up_from}
-use Rattle.lists.specs.Part.{over}
-use Rattle.lists.proofs.Laws.Over.{over_none, over_at_lem, length_over}
-use Rattle.stored.specs.Model.{is_rep_in}
-use Rattle.search.specs.Find.{pairs_under}
-use Rattle.search.proofs.Laws.Reps.{kept_none, kept_more, kept_same}
-use Rattle.search.proofs.Laws.Pairs.{under_none, under_more}
 use Rattle.search.proofs.pairs.write_pairs_under.Invariants.{start, long, done, room, room_after, pair, none}
 use Rattle.search.proofs.pairs.write_pairs_under.Goals as goal
 

@@ -1,10 +1,3 @@
-use Prim.Native.Nat.{ℕ, ◌<◌, ◌≤◌, ◌+◌, ◌-◌}
-use mathlib.Core.Path.{◌≡◌, refl, ◌∙◌, ap}
-use mathlib.Core.List.{List}
-use native.Mathlib.Omega.{arith}
-use lib.ListN.{length, set, length-set}
-use Rattle.search.specs.Answer.{work_room, cleared}
-use Rattle.search.proofs.Laws.Work.{cleared_none, cleared_more}
 use Rattle.search.proofs.work.clear.Invariants.{start, more, done}
 use Rattle.search.proofs.work.clear.Goals as goal
 

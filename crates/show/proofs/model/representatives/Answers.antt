@@ -1,14 +1,5 @@
 use Rattle.show.proofs.model.representatives.Goals.{then-root-x, else-root-x}
-use Prim.Native.Nat.{ℕ, ◌+◌, ◌-◌, ◌<◌, ◌≤◌}
-use mathlib.Core.Path.{◌≡◌}
-use mathlib.Core.Logic.{⊎_elim}
-use mathlib.Core.List.{List}
-use native.Mathlib.Numerals.{add-one}
 use native.Mathlib.Omega.{arith}
-use borrow.Author.Tests.{eq-eqb, ne_eqb}
-use lib.ListN.{length, get_or, drop, drop_of_length-le}
-use lib.Seq.{drop-cons}
-use Rattle.show.specs.Representatives.{representatives_from}
 use Rattle.show.proofs.model.representatives.Invariants.{start, more_own, more_alias, done}
 use Rattle.show.proofs.model.representatives.Goals as goal
 

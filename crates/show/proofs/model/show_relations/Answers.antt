@@ -1,4 +1,3 @@
-use Prim.Native.Nat.{◌≤◌, ◌-◌}
 use native.Mathlib.Omega.{arith}
 use Rattle.stored.proofs.Laws.Reading.{few_relations}
 use Rattle.show.proofs.model.show_relations.Goals as goal

@@ -1,8 +1,6 @@
 -- `show::model::show_relations` is safe and ends. The invariant: no more relations were shown than there are; the measure is the number of
 -- relations left. Assumes nothing.
 use Prim.Native.Nat.{◌≤◌, ◌-◌}
-use native.Mathlib.Omega.{arith}
-use Rattle.stored.proofs.Laws.Reading.{few_relations}
 use Rattle.show.proofs.model.show_relations.Given as goal
 
 abbrev pub invariant-loop-k : goal.invariant-loop-k

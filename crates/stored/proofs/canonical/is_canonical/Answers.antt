@@ -1,21 +1,5 @@
-use Prim.Native.Nat.{ℕ, ◌+◌, ◌-◌, ◌<◌, ◌≤◌}
-use mathlib.Core.Path.{◌≡◌, sym, ◌∙◌}
-use mathlib.Core.Bool.{Bool, true, false}
-use mathlib.Core.List.{List}
 use native.Mathlib.Omega.{arith}
-use borrow.Author.Tests.{not-true, not-false}
-use lib.ListN.{length, get_or}
-use Rattle.lists.specs.Every.{all}
-use Rattle.lists.specs.Part.{part, rows_of}
-use Rattle.lists.proofs.Laws.Every.{AllFrom, all_from, all_passed, all_failed, all-over}
-use Rattle.lists.proofs.Laws.Part.{part_ends}
-use Rattle.stored.specs.declared.layout.Layout.{Layout}
-use Rattle.stored.specs.Limits.{max_relations}
-use Rattle.stored.specs.Model.{is_rep_in, no_relation, relation_at}
-use Rattle.stored.specs.Canonical.{relation_canonical, canonical}
-use Rattle.stored.specs.Reading.{Reads, model_of}
-use Rattle.stored.proofs.Laws.Reading.{roots_part, roots_inside, relations_is, few_relations}
-use Rattle.stored.proofs.Laws.Canonical.{relation_canonical_lem, all_canonical, RowsThere, rows_there}
+use Rattle.stored.proofs.Laws.Reading.{roots_inside}
 use Rattle.stored.proofs.canonical.is_canonical.Invariants.{start, done, few, rows, stop, more}
 use Rattle.stored.proofs.canonical.is_canonical.Goals as goal
 

@@ -1,8 +1,6 @@
-use Prim.Native.Nat.{◌-◌}
 use native.Mathlib.Omega.{arith}
-use lib.ListN.{length, get_or}
-use Rattle.lists.proofs.Laws.Every.{AllFrom, all_from, all_passed, all_failed, all-over}
-use Rattle.stored.specs.Model.{is_rep_in}
+use lib.ListN.{get_or}
+use Rattle.lists.proofs.Laws.Every.{all_from, all_passed, all_failed, all-over}
 use Rattle.stored.proofs.Laws.Canonical.{rep_outside, rep_alias, rep_own}
 use Rattle.stored.proofs.canonical.row_canonical.Goals as goal
 

@@ -1,11 +1,9 @@
 -- `stored::canonical::row_canonical` meets its contract. The invariant: from place j on the row's entries are their own representatives where
 -- they are so from the start; the measure is the number of places left. Assumes nothing.
 use Prim.Native.Nat.{◌-◌}
-use native.Mathlib.Omega.{arith}
-use lib.ListN.{length, get_or}
-use Rattle.lists.proofs.Laws.Every.{AllFrom, all_from, all_passed, all_failed, all-over}
+use lib.ListN.{length}
+use Rattle.lists.proofs.Laws.Every.{AllFrom}
 use Rattle.stored.specs.Model.{is_rep_in}
-use Rattle.stored.proofs.Laws.Canonical.{rep_outside, rep_alias, rep_own}
 use Rattle.stored.proofs.canonical.row_canonical.Given as goal
 
 abbrev pub invariant-loop-j : goal.invariant-loop-j

@@ -1,9 +1,7 @@
 use mathlib.Core.Path.{sym, ◌∙◌}
 use native.Mathlib.Omega.{arith}
 use borrow.Author.Tests.{not-true, not-false}
-use Rattle.lists.specs.Every.{all}
-use Rattle.lists.proofs.Laws.Part.{RowsFrom, rows_from_lem, rows_over, row_fits, rows_passed, rows_failed}
-use Rattle.stored.specs.Model.{is_rep_in}
+use Rattle.lists.proofs.Laws.Part.{rows_from_lem, rows_over, row_fits, rows_passed, rows_failed}
 use Rattle.stored.proofs.canonical.rows_canonical.Goals as goal
 
 pub loop-left-init : goal.loop-left-init

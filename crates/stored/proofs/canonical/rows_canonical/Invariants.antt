@@ -1,10 +1,7 @@
 -- `stored::canonical::rows_canonical` meets its contract. The invariant: `left` rows stand from the offset `at` on, and they pass where all
 -- rows do; the measure is the number of rows left. Assumes nothing.
-use mathlib.Core.Path.{sym, ◌∙◌}
-use native.Mathlib.Omega.{arith}
-use borrow.Author.Tests.{not-true, not-false}
 use Rattle.lists.specs.Every.{all}
-use Rattle.lists.proofs.Laws.Part.{RowsFrom, rows_from_lem, rows_over, row_fits, rows_passed, rows_failed}
+use Rattle.lists.proofs.Laws.Part.{RowsFrom}
 use Rattle.stored.specs.Model.{is_rep_in}
 use Rattle.stored.proofs.canonical.rows_canonical.Given as goal
 

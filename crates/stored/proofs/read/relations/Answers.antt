@@ -1,27 +1,7 @@
-use Prim.Native.Nat.{ℕ, suc, ◌+◌, ◌-◌, ◌*◌, ◌≤◌, ◌<◌}
-use mathlib.Core.Path.{◌≡◌, refl, sym, ◌∙◌, ap}
-use mathlib.Core.List.{List, [], ◌∷◌, ◌++◌, append-nil, append_assoc}
+use mathlib.Core.Path.{refl, sym, ◌∙◌}
 use native.Mathlib.Omega.{arith}
-use lib.ListN.{length, length-append}
-use Rattle.lists.specs.Numbers.{sum}
-use Rattle.lists.specs.Part.{part}
-use Rattle.stored.specs.declared.refusal.Fault.{Fault}
-use Rattle.stored.specs.declared.field.Cursor.{Cursor}
-use Rattle.stored.specs.declared.layout.Layout.{Layout}
-use Rattle.stored.specs.declared.read.Item.{Item}
-use Rattle.stored.specs.declared.read.Item.TheVariants as item
-use Rattle.stored.specs.declared.read.Answer.TheVariants as answer
-use Rattle.stored.specs.declared.read.Reading.{Reading}
-use Rattle.stored.specs.Field.{fault_at}
-use Rattle.stored.specs.Limits.{max_relations, max_cells}
-use Rattle.stored.specs.Relation.{cells_of}
-use Rattle.stored.specs.Model.{Rel, Model}
-use Rattle.stored.specs.Parse.{item_at, relation_of, Rest, relations, broken, before, rest_at, model_with}
-use Rattle.stored.specs.Layout.{rows_from, layout_of, with_relation}
-use Rattle.stored.specs.Reading.{refused_with, reading_of, begun_with, Begun, last_reading}
-use Rattle.stored.proofs.Laws.Parse.{Found, item_found, rest_end, rest_fault, rest_too_many, rest_more}
-use Rattle.stored.proofs.Laws.WellFormed.{Measured, found_measured}
-use Rattle.stored.proofs.Laws.Layout.{past_of, past_none, past_more, having, layout_more}
+use Rattle.stored.proofs.Laws.Parse.{item_found}
+use Rattle.stored.proofs.Laws.WellFormed.{found_measured}
 use Rattle.stored.proofs.read.relations.Invariants.{start, reading_end, reading_fault, reading_last, room_for_one, more}
 use Rattle.stored.proofs.read.relations.Goals as goal
 

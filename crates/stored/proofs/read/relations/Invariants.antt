@@ -17,7 +17,7 @@ use Rattle.stored.specs.declared.read.Reading.{Reading}
 use Rattle.stored.specs.Field.{fault_at}
 use Rattle.stored.specs.Limits.{max_relations, max_cells}
 use Rattle.stored.specs.Relation.{cells_of}
-use Rattle.stored.specs.Model.{Rel, Model}
+use Rattle.stored.specs.Model.{Rel}
 use Rattle.stored.specs.Parse.{item_at, relation_of, Rest, relations, broken, before, rest_at, model_with}
 use Rattle.stored.specs.Layout.{rows_from, layout_of, with_relation}
 use Rattle.stored.specs.Reading.{refused_with, reading_of, begun_with, Begun, last_reading}

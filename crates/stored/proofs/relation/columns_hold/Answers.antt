@@ -1,8 +1,5 @@
-use Prim.Native.Nat.{◌-◌}
 use native.Mathlib.Omega.{arith}
-use lib.ListN.{length}
-use Rattle.lists.proofs.Laws.Every.{AllFrom, all_from, all_passed, all_failed, all-over}
-use Rattle.stored.specs.Relation.{column_holds}
+use Rattle.lists.proofs.Laws.Every.{all_from, all_passed, all_failed, all-over}
 use Rattle.stored.proofs.Laws.Relation.{column_holds_lem, column_fails}
 use Rattle.stored.proofs.relation.columns_hold.Goals as goal
 

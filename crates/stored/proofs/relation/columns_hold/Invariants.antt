@@ -1,11 +1,9 @@
 -- `stored::relation::columns_hold` meets its contract. The invariant: the columns from `j` on hold as all of them do; the measure is what is left
 -- of them. Assumes nothing.
 use Prim.Native.Nat.{◌-◌}
-use native.Mathlib.Omega.{arith}
 use lib.ListN.{length}
-use Rattle.lists.proofs.Laws.Every.{AllFrom, all_from, all_passed, all_failed, all-over}
+use Rattle.lists.proofs.Laws.Every.{AllFrom}
 use Rattle.stored.specs.Relation.{column_holds}
-use Rattle.stored.proofs.Laws.Relation.{column_holds_lem, column_fails}
 use Rattle.stored.proofs.relation.columns_hold.Given as goal
 
 abbrev pub invariant-loop-j : goal.invariant-loop-j

@@ -1,11 +1,3 @@
-use Prim.Native.Nat.{ℕ, ◌+◌, ◌-◌, ◌≤◌, ◌<◌}
-use mathlib.Core.Path.{◌≡◌, refl, sym, ◌∙◌}
-use mathlib.Core.Bool.{false}
-use mathlib.Core.List.{List}
-use lib.Dec.{ltb}
-use lib.ListN.{length, get_or, drop}
-use Rattle.lists.specs.Order.{row_before}
-use Rattle.lists.proofs.Laws.Order.{before_next, before_stop, before_past, before_end}
 use Rattle.stored.proofs.relation.row_before.Invariants.{start, longer, decided, more, over}
 use Rattle.stored.proofs.relation.row_before.Goals as goal
 

@@ -1,9 +1,7 @@
-use Prim.Native.Nat.{◌-◌}
 use mathlib.Core.Path.{sym, ◌∙◌}
 use borrow.Author.Tests.{not-true, not-false}
-use lib.ListN.{length}
-use Rattle.lists.proofs.Laws.Every.{PairsFrom, pairs_from_lem, pairs_passed, pairs_failed, pairs_over}
-use Rattle.stored.specs.Relation.{entry_typed, row_typed}
+use Rattle.lists.proofs.Laws.Every.{pairs_from_lem, pairs_passed, pairs_failed, pairs_over}
+use Rattle.stored.specs.Relation.{row_typed}
 use Rattle.stored.proofs.relation.row_typed.Goals as goal
 
 pub loop-j-init : goal.loop-j-init

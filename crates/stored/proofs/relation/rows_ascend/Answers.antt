@@ -1,14 +1,6 @@
-use Prim.Native.Nat.{ℕ, ◌+◌, ◌-◌, ◌*◌, ◌<◌, ◌≤◌}
-use mathlib.Core.Path.{◌≡◌, sym, ap, ◌∙◌}
-use mathlib.Core.Bool.{true, false}
-use mathlib.Core.List.{List}
+use mathlib.Core.Path.{sym, ◌∙◌}
 use native.Mathlib.Omega.{arith}
 use borrow.Author.Tests.{not-true, not-false}
-use lib.ListN.{length}
-use Rattle.lists.specs.Order.{row_before, ascending}
-use Rattle.lists.specs.Part.{part, rows_of}
-use Rattle.lists.proofs.Laws.Part.{part_ends, rows_of_end, rows_less}
-use Rattle.lists.proofs.Laws.Order.{ascending_at, ascending_none, ascending_start, ascending_next, ascending-stop, ascending_end}
 use Rattle.stored.proofs.relation.rows_ascend.Invariants.{none, start, over, next_fits, stop, more}
 use Rattle.stored.proofs.relation.rows_ascend.Goals as goal
 

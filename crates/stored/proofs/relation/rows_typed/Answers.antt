@@ -1,9 +1,7 @@
 use mathlib.Core.Path.{sym, ◌∙◌}
 use native.Mathlib.Omega.{arith}
 use borrow.Author.Tests.{not-true, not-false}
-use lib.ListN.{length}
-use Rattle.lists.proofs.Laws.Part.{RowsFrom, rows_from_lem, row_fits, row_length, rows_passed, rows_failed, rows_over}
-use Rattle.stored.specs.Relation.{row_typed}
+use Rattle.lists.proofs.Laws.Part.{rows_from_lem, row_fits, row_length, rows_passed, rows_failed, rows_over}
 use Rattle.stored.proofs.relation.rows_typed.Goals as goal
 
 pub loop-left-init : goal.loop-left-init

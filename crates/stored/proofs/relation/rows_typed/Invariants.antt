@@ -1,10 +1,7 @@
 -- `stored::relation::rows_typed` meets its contract. The invariant: the `left` rows from `at` on lie in the value, and they are typed as all rows are; the
 -- measure is `left`. Assumes nothing.
-use mathlib.Core.Path.{sym, ◌∙◌}
-use native.Mathlib.Omega.{arith}
-use borrow.Author.Tests.{not-true, not-false}
 use lib.ListN.{length}
-use Rattle.lists.proofs.Laws.Part.{RowsFrom, rows_from_lem, row_fits, row_length, rows_passed, rows_failed, rows_over}
+use Rattle.lists.proofs.Laws.Part.{RowsFrom}
 use Rattle.stored.specs.Relation.{row_typed}
 use Rattle.stored.proofs.relation.rows_typed.Given as goal
 

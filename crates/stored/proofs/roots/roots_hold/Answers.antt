@@ -1,18 +1,4 @@
-use Prim.Native.Nat.{ℕ, ◌<◌, ◌≤◌, ◌+◌, ◌-◌}
-use mathlib.Core.Path.{◌≡◌, sym, ◌∙◌}
-use mathlib.Core.Bool.{Bool, true, false}
-use mathlib.Core.List.{List}
-use native.Mathlib.Omega.{arith}
-use borrow.Author.Tests.{not-true, not-false}
-use lib.ListN.{length}
-use Rattle.lists.specs.Every.{all}
-use Rattle.lists.specs.Numbers.{sum, up_from}
-use Rattle.lists.proofs.Laws.Numbers.{all_up_next, all_up_stop, all_up_end}
-use Rattle.stored.specs.Limits.{max_types, max_elements}
-use Rattle.stored.specs.Types.{types_hold}
-use Rattle.stored.specs.Roots.{root_holds, roots_hold}
-use Rattle.stored.proofs.Laws.Types.{types_length, types_total}
-use Rattle.stored.proofs.Laws.Roots.{roots_miscounted, roots_counted}
+use Rattle.stored.proofs.Laws.Types.{types_length}
 use Rattle.stored.proofs.roots.roots_hold.Invariants.{miscounted, start, fits, stop, more, done}
 use Rattle.stored.proofs.roots.roots_hold.Goals as goal
 

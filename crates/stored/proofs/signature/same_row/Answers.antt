@@ -1,10 +1,8 @@
-use Prim.Native.Nat.{◌-◌}
 use mathlib.Core.Path.{sym}
 use borrow.Author.Tests.{eq-eqb, ne_eqb}
 use lib.Dec.{eqb}
-use lib.ListN.{length}
 use Rattle.lists.specs.Order.{same_row}
-use Rattle.lists.proofs.Laws.Every.{pairwise_lengths, PairsFrom, pairs_from_lem, pairs_passed, pairs_failed, pairs_over}
+use Rattle.lists.proofs.Laws.Every.{pairwise_lengths, pairs_from_lem, pairs_passed, pairs_failed, pairs_over}
 use Rattle.stored.proofs.signature.same_row.Goals as goal
 
 pub returns-then-a-b : goal.returns-then-a-b

@@ -1,20 +1,4 @@
-use Prim.Native.Nat.{ℕ, ◌-◌, ◌<◌, ◌≤◌, ◌+◌}
-use mathlib.Core.Path.{◌≡◌, sym, ◌∙◌, ap}
-use mathlib.Core.Bool.{Bool, true, false}
-use mathlib.Core.List.{List, []}
 use native.Mathlib.Omega.{arith}
-use borrow.Author.Tests.{not-true, not-false}
-use lib.ListN.{length, get_or}
-use Rattle.lists.specs.Every.{pairwise}
-use Rattle.lists.specs.Order.{same_row}
-use Rattle.lists.specs.Part.{part}
-use Rattle.lists.proofs.Laws.Every.{pairwise_lengths, PairsFrom, pairs_from_lem, pairs_passed, pairs_failed, pairs_over}
-use Rattle.stored.specs.declared.layout.Layout.{Layout}
-use Rattle.stored.specs.Limits.{max_relations}
-use Rattle.stored.specs.Signature.{signature, same_signature}
-use Rattle.stored.specs.Reading.{Reads, model_of}
-use Rattle.stored.proofs.Laws.Reading.{types_is, relations_is, few_relations}
-use Rattle.stored.proofs.Laws.Signature.{types_differ, types_agree, signature_types, signature_length, ColumnsThere, columns_there}
 use Rattle.stored.proofs.signature.same_signature.Invariants.{other_types, other_relations, start, done, few, columns_a, columns_b, stop, more}
 use Rattle.stored.proofs.signature.same_signature.Goals as goal
 

@@ -1,15 +1,4 @@
-use Prim.Native.Nat.{ℕ, ◌<◌, ◌≤◌, ◌+◌, ◌-◌, ◌*◌}
-use mathlib.Core.Path.{◌≡◌, refl, sym, ◌∙◌}
-use mathlib.Core.List.{List, [], ◌∷◌, ◌++◌}
 use native.Mathlib.Omega.{arith}
-use native.Mathlib.Numerals.{add-one}
-use lib.ListN.{length, get_or, take, drop, set, replicate}
-use lib.Seq.{drop-cons, take-suc, take_all, length-take-le}
-use Rattle.lists.specs.Part.{over}
-use Rattle.lists.proofs.Laws.Over.{over_at_lem}
-use Rattle.stored.specs.Limits.{max_types}
-use Rattle.stored.specs.Layout.{table, firsts_from}
-use Rattle.stored.proofs.Laws.Types.{length-firsts, firsts_next}
 use Rattle.stored.proofs.types.first_elements.Invariants.{start, more, done}
 use Rattle.stored.proofs.types.first_elements.Goals as goal
 

@@ -1,10 +1,4 @@
-use Prim.Native.Nat.{ℕ, ◌<◌, ◌≤◌, ◌+◌, ◌-◌, ◌*◌}
-use mathlib.Core.Path.{◌≡◌}
-use mathlib.Core.List.{List}
 use native.Mathlib.Omega.{arith}
-use lib.ListN.{length, get_or, drop}
-use Rattle.lists.specs.Numbers.{sum}
-use Rattle.lists.proofs.Laws.Numbers.{sum_next, sum_end}
 use Rattle.stored.proofs.types.total.Invariants.{start, more, done}
 use Rattle.stored.proofs.types.total.Goals as goal
 

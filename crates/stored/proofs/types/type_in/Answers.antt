@@ -1,10 +1,4 @@
-use Prim.Native.Nat.{ℕ, ◌<◌, ◌≤◌, ◌+◌, ◌-◌}
-use mathlib.Core.Path.{◌≡◌, sym, ◌∙◌}
-use mathlib.Core.List.{List}
 use native.Mathlib.Omega.{arith}
-use lib.ListN.{length, get_or}
-use Rattle.stored.specs.Types.{type_in}
-use Rattle.stored.proofs.Laws.Types.{type_from, type_start, type_here, type_next, type_end}
 use Rattle.stored.proofs.types.type_in.Invariants.{start, here, more, done}
 use Rattle.stored.proofs.types.type_in.Goals as goal
 

@@ -1,7 +1,4 @@
-use Prim.Native.Nat.{◌≤◌, ◌-◌}
-use mathlib.Core.Path.{◌≡◌}
 use native.Mathlib.Omega.{arith}
-use lib.ListN.{length}
 use Rattle.io.proofs.Counting.{prefix_len_of_le}
 use Rattle.vectors.proofs.bytes.decode.Goals as goal
 

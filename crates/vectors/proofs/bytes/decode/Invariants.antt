@@ -2,9 +2,7 @@
 -- is the number of bytes left. Assumes nothing.
 use Prim.Native.Nat.{◌≤◌, ◌-◌}
 use mathlib.Core.Path.{◌≡◌}
-use native.Mathlib.Omega.{arith}
 use lib.ListN.{length}
-use Rattle.io.proofs.Counting.{prefix_len_of_le}
 use Rattle.vectors.proofs.bytes.decode.Given as goal
 
 abbrev pub invariant-loop-n : goal.invariant-loop-n
