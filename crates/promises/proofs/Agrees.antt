@@ -57,8 +57,8 @@ use Rattle.promises.proofs.Found.{found, found_comparable}
 use Rattle.promises.proofs.UnderABase.{found_under, under_comparable}
 
 -- rows without repetition are all first appearances
-firsts-all : (rows : List (List ℕ)) → Distinct rows → length (firsts same_row rows) ≡ length rows
-firsts-all rows d =
+firsts_all : (rows : List (List ℕ)) → Distinct rows → length (firsts same_row rows) ≡ length rows
+firsts_all rows d =
     let few = distinct_fits (firsts same_row rows) rows (firsts_distinct same_row same_row_lem same_row_refl rows) (λ row m. mem_firsts same_row rows row m) in
     let many = distinct_fits rows (firsts same_row rows) d (λ row m. firsts_mem same_row same_row_lem same_row_refl rows row m) in
     omega (arith, few, many)
@@ -74,7 +74,7 @@ module _ (m : Model) (w : WellFormed m) (plain : canonical m ≡ true) where
   plain_count k =
       normal_count_lem m (relation_at m k)
       ∙ ap (λ (rows : List (List ℕ)). length (firsts same_row rows)) (map_alike (through m.roots) (λ (row : List ℕ). row) (relation_at m k).rows (row_normal k) ∙ map-id (relation_at m k).rows)
-      ∙ firsts-all (relation_at m k).rows (rows_distinct m w k)
+      ∙ firsts_all (relation_at m k).rows (rows_distinct m w k)
 
 -- the pair list of a map, pair by pair
 module _ (f : List ℕ) where

@@ -41,26 +41,26 @@ module _ (left : List ℕ) (a : Model) (holds : parse left ≡ model a) (budget 
       (under_files_settle base left right toLeft toRight budget (length out) (length work) (enough_for left a budget holds enough)) carried
 
 -- N grows
-N-step : (r : ℕ) → N r ≤ N (suc r)
+N_step : (r : ℕ) → N r ≤ N (suc r)
 unfolding N
-N-step zero = omega arith
-N-step (suc r) = omega (arith, suc-mul (suc r) (N (suc r)))
+N_step zero = omega arith
+N_step (suc r) = omega (arith, suc-mul (suc r) (N (suc r)))
 
-N-grows : (r m : ℕ) → r ≤ m → N r ≤ N m
-N-grows r zero h = let z : r ≡ 0 = omega arith in rw z (omega arith)
-N-grows r (suc m) h = by_place (N-grows r m)
+N_grows : (r m : ℕ) → r ≤ m → N r ≤ N m
+N_grows r zero h = let z : r ≡ 0 = omega arith in rw z (omega arith)
+N_grows r (suc m) h = by_place (N_grows r m)
   where
     by_place : (r ≤ m → N r ≤ N m) → N r ≤ N (suc m)
-    by_place ih = by_cases (ℕ_discrete r (suc m)) (λ q. rw q (omega arith)) (λ q. omega (arith, ih (omega arith), N-step m))
+    by_place ih = by_cases (ℕ_discrete r (suc m)) (λ q. rw q (omega arith)) (λ q. omega (arith, ih (omega arith), N_step m))
 
-N-nineteen : N 19 ≡ 209020565553572000
+N_nineteen : N 19 ≡ 209020565553572000
 unfolding N
-N-nineteen = refl
+N_nineteen = refl
 
 -- "fits 64 bits up to r = 19"
 pub bound_fits : (r : ℕ) → r ≤ 19 → bound r < 18446744073709551616
 unfolding bound
-bound_fits r h = omega (arith, h, mul-le-mul_left (2 * max r 1) (N-grows r 19 h), ap (λ (z : ℕ). 2 * max r 1 * z) N-nineteen)
+bound_fits r h = omega (arith, h, mul-le-mul_left (2 * max r 1) (N_grows r 19 h), ap (λ (z : ℕ). 2 * max r 1 * z) N_nineteen)
 
 pub bound_passes : 18446744073709551616 ≤ bound 20
 unfolding bound N

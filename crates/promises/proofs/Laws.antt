@@ -74,12 +74,12 @@ module _ (a b : Model) (pairs : List ℕ) where
   known_good known j l = let p = known j l in record { left_known = p.0; right_known = p.1; one_type = p.2 }
 
 -- N and the bound are those of the search's theory
-pub N-nodes : (r : ℕ) → N r ≡ nodes r
+pub N_nodes : (r : ℕ) → N r ≡ nodes r
 unfolding N
-N-nodes zero = sym nodes_zero
-N-nodes (suc zero) = sym nodes_one
-N-nodes (suc (suc r)) = ap (λ (z : ℕ). 1 + suc (suc r) * z) (N-nodes (suc r)) ∙ nodes_more r
+N_nodes zero = sym nodes_zero
+N_nodes (suc zero) = sym nodes_one
+N_nodes (suc (suc r)) = ap (λ (z : ℕ). 1 + suc (suc r) * z) (N_nodes (suc r)) ∙ nodes_more r
 
 pub bound_search : (r : ℕ) → bound r ≡ search_bound r
 unfolding bound
-bound_search r = ap (λ (z : ℕ). 2 * max r 1 * z) (N-nodes r) ∙ search_bound_lem r
+bound_search r = ap (λ (z : ℕ). 2 * max r 1 * z) (N_nodes r) ∙ search_bound_lem r

@@ -7,7 +7,7 @@ use lib.ListN.{length, take, drop, length-append, length-drop, drop_of_length-le
 use lib.Seq.{length-take-le, take-add, take-append_seam, take_at, drop_at, drop-drop, drop-append_seam}
 use Rattle.lists.specs.Part.{part, over}
 use Rattle.lists.proofs.Laws.Over.{Written}
-use Rattle.lists.proofs.Laws.Part.{part-rest}
+use Rattle.lists.proofs.Laws.Part.{part_rest}
 
 module _ {A : Type 0} where
   -- what was lent from a place on and came back
@@ -54,6 +54,6 @@ module _ {A : Type 0} where
       same =
           rest_back out back at
           ∙ ap (λ (l : List A). take at out ++ l) e
-          ∙ ap (λ (l : List A). take at out ++ over chunk l) (part-rest out at)
+          ∙ ap (λ (l : List A). take at out ++ over chunk l) (part_rest out at)
           ∙ joins;
     }

@@ -323,9 +323,9 @@ ascending_front r q rs h = go (split (row_before r q))
     go (inl e) = (e, sym (ascending_from_yes r q rs e) ∙ h)
     go (inr e) = clash h (ascending_from_no r q rs e)
 
-ascending-all : (r : List ℕ) (rs : List (List ℕ)) → ascending_from r rs ≡ true → (q : List ℕ) → Memᴰ q rs → row_before r q ≡ true
-ascending-all r [] h q m = absurd (Memᴰ.not-nil m)
-ascending-all r (s ∷ rs) h q m = go (ascending_front r s rs h) (Memᴰ.cases_cons m) (ascending-all s rs)
+ascending_all : (r : List ℕ) (rs : List (List ℕ)) → ascending_from r rs ≡ true → (q : List ℕ) → Memᴰ q rs → row_before r q ≡ true
+ascending_all r [] h q m = absurd (Memᴰ.not-nil m)
+ascending_all r (s ∷ rs) h q m = go (ascending_front r s rs h) (Memᴰ.cases_cons m) (ascending_all s rs)
   where
     go : (row_before r s ≡ true) × (ascending_from s rs ≡ true) → (q ≡ s) ⊎ Memᴰ q rs → (ascending_from s rs ≡ true → (q : List ℕ) → Memᴰ q rs → row_before s q ≡ true) → row_before r q ≡ true
     go f (inl e) ih = rw e f.0
@@ -333,7 +333,7 @@ ascending-all r (s ∷ rs) h q m = go (ascending_front r s rs h) (Memᴰ.cases_c
 
 from_distinct : (r : List ℕ) (rs : List (List ℕ)) → ascending_from r rs ≡ true → Distinct (r ∷ rs)
 from_distinct r [] h = ((λ m. Memᴰ.not-nil m), tt)
-from_distinct r (q ∷ rs) h = ((λ m. clash (ascending-all r (q ∷ rs) h r m) (before_itself r)), from_distinct q rs (ascending_front r q rs h).1)
+from_distinct r (q ∷ rs) h = ((λ m. clash (ascending_all r (q ∷ rs) h r m) (before_itself r)), from_distinct q rs (ascending_front r q rs h).1)
 
 pub ascending_distinct : (rs : List (List ℕ)) → ascending rs ≡ true → Distinct rs
 ascending_distinct [] h = tt

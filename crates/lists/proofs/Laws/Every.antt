@@ -29,8 +29,8 @@ module _ {A : Type 0} (p : A → Bool) where
   pub all_next : (xs : List A) (i : ℕ) (d : A) → i < length xs → p (get_or xs i d) ≡ true → all p (drop i xs) ≡ all p (drop (i + 1) xs)
   all_next xs i d h e = rw (add-one i, drop-cons xs i d h) (all_yes (get_or xs i d) (drop (suc i) xs) e)
 
-  pub all-stop : (xs : List A) (i : ℕ) (d : A) → i < length xs → p (get_or xs i d) ≡ false → all p (drop i xs) ≡ false
-  all-stop xs i d h e = rw (drop-cons xs i d h) (all_no (get_or xs i d) (drop (suc i) xs) e)
+  pub all_stop : (xs : List A) (i : ℕ) (d : A) → i < length xs → p (get_or xs i d) ≡ false → all p (drop i xs) ≡ false
+  all_stop xs i d h e = rw (drop-cons xs i d h) (all_no (get_or xs i d) (drop (suc i) xs) e)
 
   pub all_end : (xs : List A) (i : ℕ) → length xs ≤ i → all p (drop i xs) ≡ true
   all_end xs i h = rw (drop_of_length-le xs h) all_none
@@ -77,8 +77,8 @@ module _ {A B : Type 0} (p : A → B → Bool) where
     pub pairwise_next : i < length xs → i < length ys → p (get_or xs i d) (get_or ys i e) ≡ true → pairwise p (drop i xs) (drop i ys) ≡ pairwise p (drop (i + 1) xs) (drop (i + 1) ys)
     pairwise_next h k q = rw (add-one i, drop-cons xs i d h, drop-cons ys i e k) (pairwise_yes (get_or xs i d) (drop (suc i) xs) (get_or ys i e) (drop (suc i) ys) q)
 
-    pub pairwise-stop : i < length xs → i < length ys → p (get_or xs i d) (get_or ys i e) ≡ false → pairwise p (drop i xs) (drop i ys) ≡ false
-    pairwise-stop h k q = rw (drop-cons xs i d h, drop-cons ys i e k) (pairwise_no (get_or xs i d) (drop (suc i) xs) (get_or ys i e) (drop (suc i) ys) q)
+    pub pairwise_stop : i < length xs → i < length ys → p (get_or xs i d) (get_or ys i e) ≡ false → pairwise p (drop i xs) (drop i ys) ≡ false
+    pairwise_stop h k q = rw (drop-cons xs i d h, drop-cons ys i e k) (pairwise_no (get_or xs i d) (drop (suc i) xs) (get_or ys i e) (drop (suc i) ys) q)
 
   pub pairwise_end : (xs : List A) (ys : List B) (i : ℕ) → length xs ≤ i → length ys ≤ i → pairwise p (drop i xs) (drop i ys) ≡ true
   pairwise_end xs ys i h k = rw (drop_of_length-le xs h, drop_of_length-le ys k) pairwise_none
@@ -98,10 +98,10 @@ module _ {A : Type 0} where
     all_passed d h t = record { same = sym (all_next p xs i d h t) ∙ at.same }
 
     pub all_failed : (d : A) → i < length xs → p (get_or xs i d) ≡ false → false ≡ all p xs
-    all_failed d h f = sym (all-stop p xs i d h f) ∙ at.same
+    all_failed d h f = sym (all_stop p xs i d h f) ∙ at.same
 
-    pub all-over : length xs ≤ i → true ≡ all p xs
-    all-over h = sym (all_end p xs i h) ∙ at.same
+    pub all_over : length xs ≤ i → true ≡ all p xs
+    all_over h = sym (all_end p xs i h) ∙ at.same
 
 module _ {A B : Type 0} where
   -- two lists of one length, whose members from i on pass as all of them do
@@ -117,7 +117,7 @@ module _ {A B : Type 0} where
     pairs_passed d e h t = record { lengths = at.lengths; same = sym (pairwise_next p xs ys i d e h (omega (arith, at.lengths)) t) ∙ at.same }
 
     pub pairs_failed : (d : A) (e : B) → i < length xs → p (get_or xs i d) (get_or ys i e) ≡ false → false ≡ pairwise p xs ys
-    pairs_failed d e h f = sym (pairwise-stop p xs ys i d e h (omega (arith, at.lengths)) f) ∙ at.same
+    pairs_failed d e h f = sym (pairwise_stop p xs ys i d e h (omega (arith, at.lengths)) f) ∙ at.same
 
     pub pairs_over : length xs ≤ i → true ≡ pairwise p xs ys
     pairs_over h = sym (pairwise_end p xs ys i h (omega (arith, at.lengths))) ∙ at.same

@@ -70,8 +70,8 @@ pub record LowestFrom (p : ℕ → Bool) (n x : ℕ) : Type 0 where
   pub within : x ≤ n
   pub same : lowest p x (n - x) ≡ lowest p 0 n
 
-pub lowest-from : (p : ℕ → Bool) (n : ℕ) → LowestFrom p n 0
-lowest-from p n = let e : n - 0 ≡ n = omega arith in record { within = omega arith; same = rw e }
+pub lowest_from : (p : ℕ → Bool) (n : ℕ) → LowestFrom p n 0
+lowest_from p n = let e : n - 0 ≡ n = omega arith in record { within = omega arith; same = rw e }
 
 module _ {p : ℕ → Bool} {n x : ℕ} (from : LowestFrom p n x) where
   pub lowest_passed : x < n → p x ≡ false → LowestFrom p n (x + 1)
@@ -80,8 +80,8 @@ module _ {p : ℕ → Bool} {n x : ℕ} (from : LowestFrom p n x) where
   pub lowest_found : x < n → p x ≡ true → x ≡ lowest p 0 n
   lowest_found h t = sym (lowest_here p x n h t) ∙ from.same
 
-  pub lowest-over : n ≤ x → x ≡ lowest p 0 n
-  lowest-over h = sym (lowest_end p x n h) ∙ from.same
+  pub lowest_over : n ≤ x → x ≡ lowest p 0 n
+  lowest_over h = sym (lowest_end p x n h) ∙ from.same
 
 module _ {A : Type 0} (p : A → Bool) where
   pub first_at_none : first_at p [] ≡ 0

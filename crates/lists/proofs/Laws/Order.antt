@@ -100,9 +100,9 @@ module _ (a : ℕ) (s : List ℕ) where
     unfolding ascending_at
     ascending_next h e = ap (ascending_from (part s at a)) (rows_of_next a s (at + a) left h) ∙ ascending_from_yes (part s at a) (part s (at + a) a) _ e
 
-    pub ascending-stop : 0 < left → row_before (part s at a) (part s (at + a) a) ≡ false → ascending_at a s at left ≡ false
+    pub ascending_stop : 0 < left → row_before (part s at a) (part s (at + a) a) ≡ false → ascending_at a s at left ≡ false
     unfolding ascending_at
-    ascending-stop h e = ap (ascending_from (part s at a)) (rows_of_next a s (at + a) left h) ∙ ascending_from_no (part s at a) (part s (at + a) a) _ e
+    ascending_stop h e = ap (ascending_from (part s at a)) (rows_of_next a s (at + a) left h) ∙ ascending_from_no (part s at a) (part s (at + a) a) _ e
 
     pub ascending_end : left ≤ 0 → ascending_at a s at left ≡ true
     unfolding ascending_at

@@ -70,13 +70,13 @@ module _ {A : Type 0} where
     written_all h = at.same ∙ ap (λ (l : List A). over l old) (take_all j new h)
 
   -- a list that covers the other
-  pub over-all : (new old : List A) → length old ≤ length new → over new old ≡ new
+  pub over_all : (new old : List A) → length old ≤ length new → over new old ≡ new
   unfolding over
-  over-all new old h = rw (drop_of_length-le old h) (append-nil new)
+  over_all new old h = rw (drop_of_length-le old h) (append-nil new)
 
   -- written over a list of the same length
-  pub over-whole : (new old : List A) → length new ≡ length old → over new old ≡ new
-  over-whole new old h = over-all new old (omega arith)
+  pub over_whole : (new old : List A) → length new ≡ length old → over new old ≡ new
+  over_whole new old h = over_all new old (omega arith)
 
 -- the first n members of an array, lent and come back as `new`, shared again
 module _ {A : Type 0} (n : ℕ) (array new : List A) (room : n ≤ length array) (long : length new ≡ length (take n array)) where
@@ -90,6 +90,6 @@ module _ {A : Type 0} (n : ℕ) (array new : List A) (room : n ≤ length array)
   back_front = take_at new (drop n array) n lent_long
 
 -- what was written over a list, then what is left of it
-pub over-split : {A : Type 0} (xs old : List A) → over xs old ≡ xs ++ drop (length xs) old
+pub over_split : {A : Type 0} (xs old : List A) → over xs old ≡ xs ++ drop (length xs) old
 unfolding over
-over-split xs old = refl
+over_split xs old = refl

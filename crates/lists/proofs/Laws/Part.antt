@@ -43,8 +43,8 @@ module _ {A : Type 0} (s : List A) (b n : ℕ) where
 
 -- the rest from b on, as `&s[b..]`
 module _ {A : Type 0} (s : List A) (b : ℕ) where
-  pub part-rest : part s b (length s - b) ≡ drop b s
-  part-rest = take_all (length s - b) (drop b s) (omega (arith, length-drop b s))
+  pub part_rest : part s b (length s - b) ≡ drop b s
+  part_rest = take_all (length s - b) (drop b s) (omega (arith, length-drop b s))
 
 -- rows of a members
 module _ {A : Type 0} (a : ℕ) where

@@ -8,7 +8,7 @@ use lib.ListN.{length, get_or, set, take, drop, length-drop, length-append, take
 use lib.Seq.{get_or-drop, length-take-le, take-append-le, take-take, get_or-append-add}
 use Rattle.lists.specs.Part.{part, over}
 use Rattle.lists.proofs.Laws.Every.{get_d_inside}
-use Rattle.lists.proofs.Laws.Part.{length_part, get_d_part, part-rest}
+use Rattle.lists.proofs.Laws.Part.{length_part, get_d_part, part_rest}
 use Rattle.lists.proofs.Laws.Chunk.{rest_back, written_chunk}
 use Rattle.lists.proofs.Laws.Over.{Written, written_none, written_length, written_more, written_all, length_over, get_d_over}
 use Rattle.rounds.specs.Colours.{no_colour, colour_at}
@@ -100,5 +100,5 @@ unfolding over_at
 chunk_at new old out at w chunk rest left =
     subst
     (λ (l : List ℕ). Written new old l (at + length chunk))
-    (rest_back out (over chunk (part out at (length out - at))) at ∙ ap (λ (l : List ℕ). take at out ++ over chunk l) (part-rest out at))
+    (rest_back out (over chunk (part out at (length out - at))) at ∙ ap (λ (l : List ℕ). take at out ++ over chunk l) (part_rest out at))
     (written_chunk w chunk rest left (over chunk (part out at (length out - at))) refl)

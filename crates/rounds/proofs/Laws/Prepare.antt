@@ -9,7 +9,7 @@ use lib.ListN.{length, get_or, take, drop}
 use lib.Seq.{get_or-take, get_or-drop, get_or-append-add}
 use Rattle.lists.specs.Part.{over}
 use Rattle.lists.proofs.Laws.Every.{get_d_inside}
-use Rattle.lists.proofs.Laws.Over.{over-split, over_front, length_over, get_d_over}
+use Rattle.lists.proofs.Laws.Over.{over_split, over_front, length_over, get_d_over}
 use Rattle.stored.specs.Model.{Model, size}
 use Rattle.stored.specs.Signature.{signature, same_signature}
 use Rattle.stored.proofs.Laws.WellFormed.{WellFormed}
@@ -26,7 +26,7 @@ use Rattle.rounds.proofs.Laws.Numbers.{colours_same}
 beyond : (xs old : List ℕ) (i : ℕ) → length xs ≤ i → get_or (over xs old) i 0 ≡ get_or old i 0
 beyond xs old i h =
     let e : length xs + (i - length xs) ≡ i = omega (arith, h) in
-    ap (λ (l : List ℕ). get_or l i 0) (over-split xs old)
+    ap (λ (l : List ℕ). get_or l i 0) (over_split xs old)
     ∙ (rw e at (get_or-append-add xs (drop (length xs) old) (i - length xs) 0 ∙ get_or-drop (length xs) old (i - length xs) 0))
 
 -- the entries after a write from a place on

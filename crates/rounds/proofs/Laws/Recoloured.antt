@@ -13,7 +13,7 @@ use Rattle.lists.specs.Numbers.{up_from}
 use Rattle.lists.specs.Part.{over}
 use Rattle.lists.proofs.Laws.Tests.{split}
 use Rattle.lists.proofs.Laws.Numbers.{length-up_from}
-use Rattle.lists.proofs.Laws.Over.{over-whole, back_front}
+use Rattle.lists.proofs.Laws.Over.{over_whole, back_front}
 use Rattle.lists.proofs.Laws.Every.{mem_place, get_d_mem}
 use Rattle.lists.proofs.Laws.Part.{length_part, get_d_part}
 use Rattle.stored.specs.Model.{Model, size, is_rep}
@@ -157,8 +157,8 @@ module _ (s t : List ℕ) (l m : Layout) (rs : Reads s l) (rt : Reads t m) (one 
   recoloured_both left' right' e f =
       let held = held_after (alike_on cells w) (roots_in s l) 0 [] (up_from 0 (length (roots_in s l))) in
       ap₂ (λ (x y : List ℕ). record { left = x; right = y })
-      (e ∙ over-whole _ left (grouped_length (alike_on cells w) (roots_in s l) 0 [] (up_from 0 (length (roots_in s l))) ∙ length-up_from 0 (length (roots_in s l)) ∙ roots_count s l rs ∙ sym fits) ∙ first_list)
-      (f ∙ over-whole _ right (grouped_length (alike_on cells w) (roots_in t m) 64 held (up_from 0 (length (roots_in t m))) ∙ length-up_from 0 (length (roots_in t m)) ∙ roots_count t m rt ∙ sym other_fits) ∙ second_list)
+      (e ∙ over_whole _ left (grouped_length (alike_on cells w) (roots_in s l) 0 [] (up_from 0 (length (roots_in s l))) ∙ length-up_from 0 (length (roots_in s l)) ∙ roots_count s l rs ∙ sym fits) ∙ first_list)
+      (f ∙ over_whole _ right (grouped_length (alike_on cells w) (roots_in t m) 64 held (up_from 0 (length (roots_in t m))) ∙ length-up_from 0 (length (roots_in t m)) ∙ roots_count t m rt ∙ sym other_fits) ∙ second_list)
 
   -- the board is as it was
   pub board_kept : (w' : List ℕ) → w' ≡ w → Board (model_of s) (model_of t) cells w'

@@ -99,9 +99,9 @@ module _ (a b : Model) (c : Sides) where
       in
       subst (λ (v : ℕ). Memᴰ v (colours_after s)) e (colour_there (model_on a b s) (colours_on (round a b c) s) o.0 o.1)
 
-  pub all-given : (k : ℕ) → k < length (palette a b c) → Memᴰ k (colours_after on_left) ⊎ Memᴰ k (colours_after on_right)
+  pub all_given : (k : ℕ) → k < length (palette a b c) → Memᴰ k (colours_after on_left) ⊎ Memᴰ k (colours_after on_right)
   unfolding palette
-  all-given k h = go (Memᴰ.append_cases left_keys (mem_firsts same_key (left_keys ++ right_keys) z (get_d_mem (firsts same_key (left_keys ++ right_keys)) k none h)))
+  all_given k h = go (Memᴰ.append_cases left_keys (mem_firsts same_key (left_keys ++ right_keys) z (get_d_mem (firsts same_key (left_keys ++ right_keys)) k none h)))
     where
       left_keys : List Key
       left_keys = map (key_of a c.left) (reps a)
@@ -124,7 +124,7 @@ module _ (a b : Model) (c : Sides) where
 
   module _ (equal : equal_counts a b (round a b c) ≡ true) where
     pub all_left : (k : ℕ) → k < length (palette a b c) → Memᴰ k (colours_after on_left)
-    all_left k h = go (all-given k h)
+    all_left k h = go (all_given k h)
       where
         go : Memᴰ k (colours_after on_left) ⊎ Memᴰ k (colours_after on_right) → Memᴰ k (colours_after on_left)
         go (inl m) = m

@@ -20,7 +20,7 @@ use Rattle.rounds.specs.Round.{reps, Sides, palette, round, colours_of}
 use Rattle.rounds.specs.Parts.{are_small}
 use Rattle.rounds.proofs.Laws.Counts.{small_below, below_small}
 use Rattle.rounds.proofs.Theorems.Keys.{Side, on_left, on_right, reps_kept}
-use Rattle.rounds.proofs.Theorems.Counts.{colour_there, colour_of, colours_after, below_palette, all-given}
+use Rattle.rounds.proofs.Theorems.Counts.{colour_there, colour_of, colours_after, below_palette, all_given}
 
 module _ (m : Model) (colours : List ℕ) where
   colours_few : length (colours_of m colours) ≤ size m
@@ -70,7 +70,7 @@ module _ (a b : Model) (c : Sides) where
       on_side k (inr m) = Memᴰ.append_right lefts m
 
       given : (k : ℕ) → Memᴰ k (up_from 0 (length (palette a b c))) → Memᴰ k (lefts ++ rights)
-      given k m = on_side k (all-given a b c k (omega (arith, (mem_up_from 0 (length (palette a b c)) k m).1)))
+      given k m = on_side k (all_given a b c k (omega (arith, (mem_up_from 0 (length (palette a b c)) k m).1)))
 
   pub round_small : size a + size b ≤ 128 → (s : Side) → are_small (colours_after a b c s) ≡ true
   round_small h s = below_small (colours_after a b c s) (λ k m. omega (arith, h, palette_few, below_palette a b c s k m))

@@ -114,13 +114,13 @@ module _ (a b : Model) (pairs : List ℕ) (room : ℕ) where
   unfolding CheckKnown check_models judged_if
   check_known = by_room (split (ltb room (size a)))
     where
-      by-given : Ready a b pairs room → (x : Given) → give_from (pair_count pairs) a b pairs 0 (blank (size a)) ≡ x → CheckKnown (judged_if a b x)
-      by-given r (images g) e = judged_known r g e
-      by-given r (given.refused y) e = inr (inr (inr (r, rw (e, judged_if))))
+      by_given : Ready a b pairs room → (x : Given) → give_from (pair_count pairs) a b pairs 0 (blank (size a)) ≡ x → CheckKnown (judged_if a b x)
+      by_given r (images g) e = judged_known r g e
+      by_given r (given.refused y) e = inr (inr (inr (r, rw (e, judged_if))))
 
       by_even : ltb room (size a) ≡ false → same_signature (signature a) (signature b) ≡ true → (eqb (length pairs % 2) 0 ≡ true) ⊎ (eqb (length pairs % 2) 0 ≡ false) → CheckKnown (check_models pairs room a b)
       by_even p q (inr e) = rw (p, check_models, q, e) (inr (inr (inl refl)))
-      by_even p q (inl e) = let r : Ready a b pairs room = record { has_room = ltb-false _ _ p; one_signature = q; even = eqb-true _ _ e } in rw (check_ready r) (by-given r (give_from (pair_count pairs) a b pairs 0 (blank (size a))) refl)
+      by_even p q (inl e) = let r : Ready a b pairs room = record { has_room = ltb-false _ _ p; one_signature = q; even = eqb-true _ _ e } in rw (check_ready r) (by_given r (give_from (pair_count pairs) a b pairs 0 (blank (size a))) refl)
 
       by_signature : ltb room (size a) ≡ false → (same_signature (signature a) (signature b) ≡ true) ⊎ (same_signature (signature a) (signature b) ≡ false) → CheckKnown (check_models pairs room a b)
       by_signature p (inr q) = rw (p, check_models, q) (inr (inl refl))

@@ -432,13 +432,13 @@ module _ {b : Model} {w : List ℕ} {depth n y : ℕ} (u : Look b w depth n y) w
     leaves = λ _. refl;
   }
 
-  module _ (c : List (List ℕ)) (l r : List ℕ) (m : ℕ) (type_size : m ≡ size b)
+  module _ (c : List (List ℕ)) (l r : List ℕ) (m : ℕ) (size_of : m ≡ size b)
       (left_is : (take n l ≡ set (part stored base n) (get_or stored (base + 128) 0) (get_or stored (base + 130) 0)) × (length l ≡ max_elements))
       (right_is : (take m r ≡ set (part stored (base + 64) m) y (get_or stored (base + 130) 0)) × (length r ≡ max_elements)) where
     sides_are : (a : Model) → size a ≡ n → sides_in a b (l ∷ r ∷ []) ≡ tried (choice_in a b w (depth - 1)) y
     unfolding sides_in tried choice_in
     sides_are a e =
-        rw (e, ← type_size, left_is.0, right_is.0, part_stored w (base + 131) (y + 1) base n (omega (arith, u.few)), part_stored w (base + 131) (y + 1) (base + 64) m (omega (arith, u.few_right)), look_entry 128 (omega arith), look_entry 130 (omega arith))
+        rw (e, ← size_of, left_is.0, right_is.0, part_stored w (base + 131) (y + 1) base n (omega (arith, u.few)), part_stored w (base + 131) (y + 1) (base + 64) m (omega (arith, u.few_right)), look_entry 128 (omega arith), look_entry 130 (omega arith))
 
     pub looked_same : get_or stored (base + 64 + y) 0 ≡ get_or stored (base + 129) 0 → Looked b n w depth c stored (l ∷ r ∷ []) true
     looked_same q = record {

@@ -48,11 +48,11 @@ TakesOne (takes n t) = n ≡ 1
 pub next_takes_one : (choices : List Choice) → TakesOne (next_choice choices)
 unfolding next_choice
 next_takes_one [] = tt
-next_takes_one (e ∷ choices) = by-rest e.rest refl (next_takes_one choices)
+next_takes_one (e ∷ choices) = by_rest e.rest refl (next_takes_one choices)
   where
-    by-rest : (ys : List ℕ) → e.rest ≡ ys → TakesOne (next_choice choices) → TakesOne (next_choice (e ∷ choices))
-    by-rest [] q ih = rw (q, next_choice) ih
-    by-rest (y ∷ ys) q ih = rw (q, next_choice) refl
+    by_rest : (ys : List ℕ) → e.rest ≡ ys → TakesOne (next_choice choices) → TakesOne (next_choice (e ∷ choices))
+    by_rest [] q ih = rw (q, next_choice) ih
+    by_rest (y ∷ ys) q ih = rw (q, next_choice) refl
 
 -- with rounds of one unit every step takes one
 pub step_takes_one : (a b : Model) (s : State) → TakesOne (step 1 a b s)

@@ -10,7 +10,7 @@ use lib.Seq.{length-take-le, length_front, drop-append-add, drop-drop}
 use Rattle.lists.specs.Numbers.{up_from}
 use Rattle.lists.specs.Part.{over}
 use Rattle.lists.proofs.Laws.Numbers.{length-up_from}
-use Rattle.lists.proofs.Laws.Over.{over-whole, back_room, back_front}
+use Rattle.lists.proofs.Laws.Over.{over_whole, back_room, back_front}
 use Rattle.stored.specs.declared.layout.Layout.{Layout}
 use Rattle.stored.specs.Model.{Model, size}
 use Rattle.stored.specs.Reading.{Reads, model_of}
@@ -49,7 +49,7 @@ module _ (s : List ℕ) (l : Layout) (p : Reads s l) (row : List ℕ) (h : lengt
     as_long = long ∙ sym (size_is s l p) ∙ row_long
 
     whole : new ≡ xs
-    whole = w ∙ over-whole xs (take l.size row) as_long
+    whole = w ∙ over_whole xs (take l.size row) as_long
 
     still : length new ≡ length (take l.size row)
     still = ap length whole ∙ as_long

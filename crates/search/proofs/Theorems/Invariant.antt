@@ -70,11 +70,11 @@ module _ (a b : Model) (Holds : State → Type 0) (kept : Kept a b Holds) where
   after_choice : (choices : List Choice) → Holds (choose choices) → AfterStep (next_choice choices)
   unfolding next_choice
   after_choice [] h = h
-  after_choice (e ∷ choices) h = by-rest e.rest refl (after_choice choices)
+  after_choice (e ∷ choices) h = by_rest e.rest refl (after_choice choices)
     where
-      by-rest : (ys : List ℕ) → e.rest ≡ ys → (Holds (choose choices) → AfterStep (next_choice choices)) → AfterStep (next_choice (e ∷ choices))
-      by-rest [] q ih = rw (q, next_choice) (ih (kept.used_up e choices h q))
-      by-rest (y ∷ ys) q ih = rw (q, next_choice) (after_candidate e y ys choices h q)
+      by_rest : (ys : List ℕ) → e.rest ≡ ys → (Holds (choose choices) → AfterStep (next_choice choices)) → AfterStep (next_choice (e ∷ choices))
+      by_rest [] q ih = rw (q, next_choice) (ih (kept.used_up e choices h q))
+      by_rest (y ∷ ys) q ih = rw (q, next_choice) (after_candidate e y ys choices h q)
 
   pub after_step : (w : ℕ) (s : State) → Holds s → AfterStep (step w a b s)
   unfolding step
@@ -123,11 +123,11 @@ module _ (w : ℕ) (a b : Model) where
   choices_not_there : (s : State) (choices : List Choice) → OnlyDone s (next_choice choices)
   unfolding next_choice
   choices_not_there s [] = tt
-  choices_not_there s (e ∷ choices) = by-rest e.rest refl (choices_not_there s choices)
+  choices_not_there s (e ∷ choices) = by_rest e.rest refl (choices_not_there s choices)
     where
-      by-rest : (ys : List ℕ) → e.rest ≡ ys → OnlyDone s (next_choice choices) → OnlyDone s (next_choice (e ∷ choices))
-      by-rest [] q ih = rw (q, next_choice) ih
-      by-rest (y ∷ ys) q ih = rw (q, next_choice) tt
+      by_rest : (ys : List ℕ) → e.rest ≡ ys → OnlyDone s (next_choice choices) → OnlyDone s (next_choice (e ∷ choices))
+      by_rest [] q ih = rw (q, next_choice) ih
+      by_rest (y ∷ ys) q ih = rw (q, next_choice) tt
 
   only_done : (s : State) → OnlyDone s (step w a b s)
   unfolding step

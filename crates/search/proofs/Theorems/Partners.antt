@@ -137,8 +137,8 @@ module _ (f : List ℕ) (x y : ℕ) (below : x < length f) (free : conflicts f x
       (λ e. subst (λ (u : ℕ). get_or (set f x y) u 255 ≡ get_or f u 255) (sym e) (given_here ∙ sym (no_conflict f x y free (λ z. n (ap (λ (u : ℕ). get_or f u 255) e ∙ z)))))
       (λ d. get_or-set_other f x v y 255 d)
 
-  given-from : (v : ℕ) → (get_or (set f x y) v 255 ≡ 255 → ⊥) → (v ≡ x) ⊎ (get_or f v 255 ≡ 255 → ⊥)
-  given-from v n = by_cases (ℕ_discrete v x) (λ e. inl e) (λ d. inr (λ z. n (get_or-set_other f x v y 255 d ∙ z)))
+  given_from : (v : ℕ) → (get_or (set f x y) v 255 ≡ 255 → ⊥) → (v ≡ x) ⊎ (get_or f v 255 ≡ 255 → ⊥)
+  given_from v n = by_cases (ℕ_discrete v x) (λ e. inl e) (λ d. inr (λ z. n (get_or-set_other f x v y 255 d ∙ z)))
 
 module _ (a b : Model) (wa : WellFormed a) (wb : WellFormed b) (pairs : List ℕ) where
   named_below : (j : ℕ) → GoodPair a b pairs j → named a pairs j < size a
@@ -199,8 +199,8 @@ module _ (a b : Model) (wa : WellFormed a) (wb : WellFormed b) (pairs : List ℕ
           right_long = length-set g (meant b pairs i) (named a pairs i) ∙ matched.right_long;
           to_meant = new_meant;
           to_named = new_named;
-          left_from_lem = λ x n. new_left_from x (given-from f (named a pairs i) (meant b pairs i) left_below free x n);
-          right_from_lem = λ y n. new_right_from y (given-from g (meant b pairs i) (named a pairs i) right_below free' y n);
+          left_from_lem = λ x n. new_left_from x (given_from f (named a pairs i) (meant b pairs i) left_below free x n);
+          right_from_lem = λ y n. new_right_from y (given_from g (meant b pairs i) (named a pairs i) right_below free' y n);
         }
 
       -- a conflict on either side

@@ -80,11 +80,11 @@ module _ (a : Model) where
 
   choice_lowers : (choices : List Choice) → Lowers (choices_take choices) (next_choice choices)
   choice_lowers [] = unfold next_choice in tt
-  choice_lowers (e ∷ choices) = by-rest e.rest refl (choice_lowers choices)
+  choice_lowers (e ∷ choices) = by_rest e.rest refl (choice_lowers choices)
     where
-      by-rest : (ys : List ℕ) → e.rest ≡ ys → Lowers (choices_take choices) (next_choice choices) → Lowers (choices_take (e ∷ choices)) (next_choice (e ∷ choices))
-      by-rest [] q ih = rw (next_closes e choices q, used_up e choices q) ih
-      by-rest (y ∷ ys) q ih = subst (Lowers (choices_take (e ∷ choices))) (sym (next_looks e y ys choices q)) (refl, candidate_lowers e y ys choices q)
+      by_rest : (ys : List ℕ) → e.rest ≡ ys → Lowers (choices_take choices) (next_choice choices) → Lowers (choices_take (e ∷ choices)) (next_choice (e ∷ choices))
+      by_rest [] q ih = rw (next_closes e choices q, used_up e choices q) ih
+      by_rest (y ∷ ys) q ih = subst (Lowers (choices_take (e ∷ choices))) (sym (next_looks e y ys choices q)) (refl, candidate_lowers e y ys choices q)
 
   closing_lowers : (f : List ℕ) (choices : List Choice) (t : Bool) → 1 + potential (after_closing choices f t) ≤ 1 + choices_take choices
   unfolding after_closing potential

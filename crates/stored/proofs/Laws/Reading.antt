@@ -96,8 +96,8 @@ module _ (s : List ℕ) (l : Layout) (reads : Reads s l) where
   pub relation_there : (k : ℕ) → k < l.relations → RelationThere s l k (relation_at (model_of s) k)
   unfolding layout_of
   relation_there k h = record {
-    is_arity = ap (λ (x : Layout). get_or x.arity k 0) reads.there ∙ from-map arity refl;
-    is_count = ap (λ (x : Layout). get_or x.count k 0) reads.there ∙ from-map count refl;
+    is_arity = ap (λ (x : Layout). get_or x.arity k 0) reads.there ∙ from_map arity refl;
+    is_count = ap (λ (x : Layout). get_or x.count k 0) reads.there ∙ from_map count refl;
     stands = subst (λ (b : ℕ). Stands s b (relation_at (model_of s) k)) (sym place) (f.stand no_relation k below);
   }
     where
@@ -110,8 +110,8 @@ module _ (s : List ℕ) (l : Layout) (reads : Reads s l) where
       f : RestFormed max_relations (model_of s).sizes max_cells s (6 + length (model_of s).sizes + sum (model_of s).sizes) (model_of s).relations
       f = rest_formed (model_of s).sizes s max_relations max_cells (6 + length (model_of s).sizes + sum (model_of s).sizes) (model_of s).relations reads_accepted.rest
 
-      from-map : (g : Rel → ℕ) → g no_relation ≡ 0 → get_or (table (map g (model_of s).relations)) k 0 ≡ g (relation_at (model_of s) k)
-      from-map g e =
+      from_map : (g : Rel → ℕ) → g no_relation ≡ 0 → get_or (table (map g (model_of s).relations)) k 0 ≡ g (relation_at (model_of s) k)
+      from_map g e =
           table_entry (map g (model_of s).relations) k (omega (arith, below, length-map (model_of s).relations g))
           ∙ ap (get_or (map g (model_of s).relations) k) (sym e)
           ∙ get_or-map g (model_of s).relations k no_relation

@@ -69,10 +69,10 @@ module _ (sizes : List ℕ) (t left : ℕ) where
   type_end h = rw (drop_of_length-le sizes h)
 
 -- the first elements
-pub length-firsts : (x : ℕ) (sizes : List ℕ) → length (firsts_from x sizes) ≡ length sizes
+pub length_firsts : (x : ℕ) (sizes : List ℕ) → length (firsts_from x sizes) ≡ length sizes
 unfolding firsts_from
-length-firsts x [] = refl
-length-firsts x (n ∷ sizes) = rw (length-firsts (x + n) sizes)
+length_firsts x [] = refl
+length_firsts x (n ∷ sizes) = rw (length_firsts (x + n) sizes)
 
 pub firsts_next : (sizes : List ℕ) (x t : ℕ) → t < length sizes → firsts_from x (drop t sizes) ≡ x ∷ firsts_from (x + get_or sizes t 0) (drop (t + 1) sizes)
 unfolding firsts_from

@@ -1,10 +1,10 @@
 use Rattle.rounds.proofs.classes.lowest_in.Goals.{then-colour_at-k+else-is_rep, else-colour_at-k}
-use Rattle.lists.proofs.Laws.First.{lowest-from, lowest-over}
+use Rattle.lists.proofs.Laws.First.{lowest_from, lowest_over}
 use Rattle.rounds.proofs.classes.lowest_in.Invariants.{other, an_alias, found}
 use Rattle.rounds.proofs.classes.lowest_in.Goals as goal
 
 pub loop-x-init : goal.loop-x-init
-loop-x-init c = lowest-from _ _
+loop-x-init c = lowest_from _ _
 
 pub returns-then-is_rep : goal.returns-then-is_rep
 returns-then-is_rep c = found _ _ _ _ c.loop-x.invariant c.loop-x-test.true _ c.colour_at.ensures _ c.is_rep.ensures c.if-colour_at-k.true c.if-is_rep.true
@@ -17,4 +17,4 @@ loop-x-preserved c =
     ]
 
 pub returns : goal.returns
-returns c = lowest-over c.loop-x.invariant c.loop-x-test.false
+returns c = lowest_over c.loop-x.invariant c.loop-x-test.false

@@ -10,7 +10,7 @@ use Rattle.lists.specs.First.{lowest}
 use Rattle.stored.specs.Model.{is_rep_in}
 use Rattle.rows.specs.Check.{is_missing}
 use Rattle.lists.proofs.Laws.Every.{get_d_inside}
-use Rattle.lists.proofs.Laws.First.{LowestFrom, lowest-from, lowest_passed, lowest_found, lowest-over}
+use Rattle.lists.proofs.Laws.First.{LowestFrom, lowest_from, lowest_passed, lowest_found, lowest_over}
 use Rattle.rows.proofs.Laws.Check.{missing_alias, missing_none, missing_given}
 use Rattle.rows.proofs.check.first_missing.Given as goal
 
@@ -22,14 +22,14 @@ pub record Passed (roots f : List ℕ) (left : ℕ) : Type 0 where
 pub start : (roots f : List ℕ) → length f ≡ length roots → Passed roots f (length roots)
 start roots f l =
     let e : length roots - length roots ≡ 0 = omega arith in
-    record { lengths = l; within = omega arith; from = rw e (lowest-from (is_missing roots f) (length roots)) }
+    record { lengths = l; within = omega arith; from = rw e (lowest_from (is_missing roots f) (length roots)) }
 
 module _ (roots f : List ℕ) (left : ℕ) (i : Passed roots f left) where
   abbrev pub x : ℕ
   x = length roots - left
 
   pub done : left ≤ 0 → length roots ≡ lowest (is_missing roots f) 0 (length roots)
-  done h = let e : length roots - left ≡ length roots = omega arith in sym e ∙ lowest-over i.from (omega arith)
+  done h = let e : length roots - left ≡ length roots = omega arith in sym e ∙ lowest_over i.from (omega arith)
 
   module _ (h : 0 < left) where
     pub inside : x < length roots

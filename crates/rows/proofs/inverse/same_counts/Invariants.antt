@@ -49,8 +49,8 @@ module _ (s : List ℕ) (l : Layout) (reads : Reads s l) (k : ℕ) (h : k < l.re
   pub given_ascends : ascending (given s l k) ≡ true
   given_ascends = rw (rows_there s l reads k h).same (relation_formed s l reads k h).rows_ascend
 
-  pub given-plain : (plain : Bool) → plain ≡ canonical (model_of s) → plain ≡ true → map (through (roots_in s l)) (given s l k) ≡ given s l k
-  given-plain plain e p =
+  pub given_plain : (plain : Bool) → plain ≡ canonical (model_of s) → plain ≡ true → map (through (roots_in s l)) (given s l k) ≡ given s l k
+  given_plain plain e p =
       rw (roots_between s l reads, (rows_there s l reads k h).same)
       (canonical_rows (model_of s) (sym e ∙ p) k (omega (arith, relations_is s l reads)))
 
@@ -58,7 +58,7 @@ pub record Passed (s t : List ℕ) (l m : Layout) (plain other-plain : Bool) (k 
   pub reads_s : Reads s l
   pub reads_t : Reads t m
   pub plain_s : plain ≡ canonical (model_of s)
-  pub plain-t : other-plain ≡ canonical (model_of t)
+  pub plain_t : other-plain ≡ canonical (model_of t)
   pub relations : l.relations ≡ m.relations
   pub from : UpFrom (same_count (model_of s) (model_of t)) (length (model_of s).relations) k
 
@@ -71,7 +71,7 @@ start s t l m plain other-plain pre p q =
       reads_s = pre.0;
       reads_t = pre.1;
       plain_s = p;
-      plain-t = q;
+      plain_t = q;
       relations = relations_is s l pre.0 ∙ sym (signature_length a) ∙ e ∙ signature_length b ∙ sym (relations_is t m pre.1);
       from = up_from_lem _ _;
     }
@@ -92,12 +92,12 @@ module _ (s t : List ℕ) (l m : Layout) (plain other-plain : Bool) (k : ℕ) (i
     rows_t = rows_there t m i.reads_t k (omega (arith, i.relations))
 
     pub counted_s : (get_or l.count k 0 * get_or l.arity k 0 ≤ length (rows_at s l k)) × (ascending (given s l k) ≡ true) × (plain ≡ true → map (through (roots_in s l)) (given s l k) ≡ given s l k)
-    counted_s = (rows_s.inside, given_ascends s l i.reads_s k h, given-plain s l i.reads_s k h plain i.plain_s)
+    counted_s = (rows_s.inside, given_ascends s l i.reads_s k h, given_plain s l i.reads_s k h plain i.plain_s)
 
     pub counted_t : (get_or m.count k 0 * get_or m.arity k 0 ≤ length (rows_at t m k)) × (ascending (given t m k) ≡ true) × (other-plain ≡ true → map (through (roots_in t m)) (given t m k) ≡ given t m k)
     counted_t =
         let o : k < m.relations = omega (arith, i.relations) in
-        (rows_t.inside, given_ascends t m i.reads_t k o, given-plain t m i.reads_t k o other-plain i.plain-t)
+        (rows_t.inside, given_ascends t m i.reads_t k o, given_plain t m i.reads_t k o other-plain i.plain_t)
 
     -- the two counts
     module _ (n o : ℕ) (e : n ≡ counted s l k) (f : o ≡ counted t m k) where
@@ -120,7 +120,7 @@ module _ (s t : List ℕ) (l m : Layout) (plain other-plain : Bool) (k : ℕ) (i
         reads_s = i.reads_s;
         reads_t = i.reads_t;
         plain_s = i.plain_s;
-        plain-t = i.plain-t;
+        plain_t = i.plain_t;
         relations = i.relations;
         from = up_passed i.from inside (eq-eqb _ _ (sym is_n ∙ q ∙ is_o));
       }

@@ -6,7 +6,7 @@ use native.Mathlib.Omega.{arith}
 use lib.ListN.{length, take, drop}
 use lib.Seq.{length-take-le}
 use Rattle.lists.specs.Part.{over}
-use Rattle.lists.proofs.Laws.Over.{over-whole, back_room, back_front}
+use Rattle.lists.proofs.Laws.Over.{over_whole, back_room, back_front}
 use Rattle.stored.specs.declared.layout.Layout.{Layout}
 use Rattle.stored.specs.Reading.{Reads, model_of}
 use Rattle.stored.proofs.Laws.Reading.{roots_inside}
@@ -34,7 +34,7 @@ module _ (s : List ℕ) (l : Layout) (reads : Reads s l) (array : List ℕ) (e :
     long = length_through f (roots_in s l) ∙ roots_long s l reads ∙ front
 
     whole : new ≡ through f (roots_in s l)
-    whole = w ∙ over-whole (through f (roots_in s l)) (take l.size array) long
+    whole = w ∙ over_whole (through f (roots_in s l)) (take l.size array) long
 
     still_fits : l.size ≤ length (new ++ drop l.size array)
     still_fits = back_room l.size array new fits (ap length whole ∙ long)

@@ -17,7 +17,7 @@ use Rattle.stored.proofs.Laws.Reading.{relations_is, relation_there, few_relatio
 use Rattle.stored.proofs.Laws.WellFormed.{RelationFormed}
 use Rattle.stored.proofs.Laws.Canonical.{RowsThere, rows_there}
 use Rattle.rows.specs.Rows.{through, rows_kept, kept_by, first_unkept_by}
-use Rattle.lists.proofs.Laws.First.{LowestFrom, lowest-from, lowest_passed, lowest_found, lowest-over}
+use Rattle.lists.proofs.Laws.First.{LowestFrom, lowest_from, lowest_passed, lowest_found, lowest_over}
 use Rattle.rows.proofs.Laws.Given.{roots_in, roots_between}
 use Rattle.rows.proofs.Laws.Rows.{kept_rows, unkept, lowest_unkept, rows_at, Alike, as_many_relations, same_arity, target_rows}
 use Rattle.rows.proofs.Laws.Canonical.{relation_formed, canonical_rows}
@@ -29,11 +29,11 @@ pub record Passed (s t images : List ℕ) (l m : Layout) (plain : Bool) (k : ℕ
   pub from : LowestFrom (unkept (model_of s) (model_of t) images) (length (model_of s).relations) k
 
 pub start : (s t images : List ℕ) (l m : Layout) (plain : Bool) → Alike s t l m → plain ≡ canonical (model_of t) → Passed s t images l m plain 0
-start s t images l m plain h p = record { alike = h; is_plain = p; from = lowest-from _ _ }
+start s t images l m plain h p = record { alike = h; is_plain = p; from = lowest_from _ _ }
 
 module _ (s t images : List ℕ) (l m : Layout) (plain : Bool) (k : ℕ) (i : Passed s t images l m plain k) where
   pub done : l.relations ≤ k → k ≡ first_unkept_by (model_of s) (model_of t) images
-  done h = lowest-over i.from (omega (arith, relations_is s l i.alike.0)) ∙ lowest_unkept (model_of s) (model_of t) images
+  done h = lowest_over i.from (omega (arith, relations_is s l i.alike.0)) ∙ lowest_unkept (model_of s) (model_of t) images
 
   module _ (h : k < l.relations) where
     pub few : k < max_relations

@@ -8,7 +8,7 @@ use native.Mathlib.Omega.{arith}
 use lib.ListN.{length, get_or}
 use Rattle.lists.specs.Every.{all}
 use Rattle.lists.specs.Part.{part, rows_of}
-use Rattle.lists.proofs.Laws.Every.{AllFrom, all_from, all_passed, all_failed, all-over}
+use Rattle.lists.proofs.Laws.Every.{AllFrom, all_from, all_passed, all_failed, all_over}
 use Rattle.lists.proofs.Laws.Part.{part_ends}
 use Rattle.stored.specs.declared.layout.Layout.{Layout}
 use Rattle.stored.specs.Limits.{max_relations}
@@ -38,7 +38,7 @@ module _ (s : List ℕ) (l : Layout) (k : ℕ) (i : Passed s l k) where
   whole = sym (all_canonical (model_of s))
 
   pub done : l.relations ≤ k → true ≡ canonical (model_of s)
-  done h = all-over i.from (omega (arith, relations_is s l i.reads)) ∙ whole
+  done h = all_over i.from (omega (arith, relations_is s l i.reads)) ∙ whole
 
   module _ (h : k < l.relations) where
     pub few : k < max_relations

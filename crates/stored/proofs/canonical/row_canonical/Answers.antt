@@ -1,6 +1,6 @@
 use native.Mathlib.Omega.{arith}
 use lib.ListN.{get_or}
-use Rattle.lists.proofs.Laws.Every.{all_from, all_passed, all_failed, all-over}
+use Rattle.lists.proofs.Laws.Every.{all_from, all_passed, all_failed, all_over}
 use Rattle.stored.proofs.Laws.Canonical.{rep_outside, rep_alias, rep_own}
 use Rattle.stored.proofs.canonical.row_canonical.Goals as goal
 
@@ -23,4 +23,4 @@ pub loop-j-preserved : goal.loop-j-preserved
 loop-j-preserved c = all_passed c.loop-j.invariant 0 c.loop-j-test.true (rep_own _ _ c.if-roots-x.false c.if-root-x.false)
 
 pub returns : goal.returns
-returns c = all-over c.loop-j.invariant c.loop-j-test.false
+returns c = all_over c.loop-j.invariant c.loop-j-test.false

@@ -1,5 +1,5 @@
 use native.Mathlib.Omega.{arith}
-use Rattle.lists.proofs.Laws.Every.{all_from, all_passed, all_failed, all-over}
+use Rattle.lists.proofs.Laws.Every.{all_from, all_passed, all_failed, all_over}
 use Rattle.stored.proofs.Laws.Relation.{column_holds_lem, column_fails}
 use Rattle.stored.proofs.relation.columns_hold.Goals as goal
 
@@ -16,4 +16,4 @@ pub loop-j-preserved : goal.loop-j-preserved
 loop-j-preserved c = all_passed c.loop-j.invariant 0 c.loop-j-test.true (column_holds_lem _ _ c.if-types-columns.false)
 
 pub returns : goal.returns
-returns c = all-over c.loop-j.invariant c.loop-j-test.false
+returns c = all_over c.loop-j.invariant c.loop-j-test.false

@@ -9,7 +9,7 @@ use lib.ListN.{length}
 use Rattle.lists.specs.Order.{row_before, ascending}
 use Rattle.lists.specs.Part.{part, rows_of}
 use Rattle.lists.proofs.Laws.Part.{part_ends, rows_of_end, rows_less}
-use Rattle.lists.proofs.Laws.Order.{ascending_at, ascending_none, ascending_start, ascending_next, ascending-stop, ascending_end}
+use Rattle.lists.proofs.Laws.Order.{ascending_at, ascending_none, ascending_start, ascending_next, ascending_stop, ascending_end}
 use Rattle.stored.proofs.relation.rows_ascend.Given as goal
 
 -- of c rows of a members: the row at `at` and `left` more ascend as all rows do
@@ -36,7 +36,7 @@ module _ {a c left at : ℕ} {s : List ℕ} (from : From a c s left at) where
     ends = rw (part_ends s at a, part_ends s (at + a) a)
 
     pub stop : row_before (part s at (at + a - at)) (part s (at + a) (at + a + a - (at + a))) ≡ false → false ≡ ascending (rows_of a c s)
-    stop f = sym (ascending-stop a s at left h (sym ends ∙ f)) ∙ from.same
+    stop f = sym (ascending_stop a s at left h (sym ends ∙ f)) ∙ from.same
 
     pub more : row_before (part s at (at + a - at)) (part s (at + a) (at + a + a - (at + a))) ≡ true → From a c s (left - 1) (at + a)
     more t = record { fits = omega (arith, from.fits, rows_less left a h); same = sym (ascending_next a s at left h (sym ends ∙ t)) ∙ from.same }

@@ -9,7 +9,7 @@ use lib.ListN.{length, length-drop}
 use Rattle.lists.specs.Every.{all}
 use Rattle.lists.specs.Order.{ascending}
 use Rattle.lists.specs.Part.{part, rows_of}
-use Rattle.lists.proofs.Laws.Part.{length_part, part_ends, part-rest}
+use Rattle.lists.proofs.Laws.Part.{length_part, part_ends, part_rest}
 use Rattle.stored.specs.Relation.{columns_of, rows_in, column_holds, row_typed, rows_hold, Shaped}
 use Rattle.stored.proofs.Laws.Relation.{rows_no_columns, rows_no_types, rows_order}
 use Rattle.stored.proofs.relation.rows_hold.Goals as goal
@@ -29,10 +29,10 @@ module _ {v : List ℕ} {a n : ℕ} (s : Shaped v a n) where
   columns_length = ap length (part_ends v 1 a) ∙ length_part v 1 a (omega (arith, s.is_length))
 
   rows_are : rows_of a n (handed_rows v a) ≡ rows_in v
-  rows_are = rw (part-rest v (3 + a), s.is_arity, s.is_count)
+  rows_are = rw (part_rest v (3 + a), s.is_arity, s.is_count)
 
   rows_fit : n * length (handed_columns v a) ≤ length (handed_rows v a)
-  rows_fit = rw (columns_length, part-rest v (3 + a), length-drop (3 + a) v) (omega (arith, s.is_length))
+  rows_fit = rw (columns_length, part_rest v (3 + a), length-drop (3 + a) v) (omega (arith, s.is_length))
 
   -- what the three tests answer, in turn
   module _ (sizes : List ℕ) (r : Bool) (e : r ≡ all (column_holds sizes) (handed_columns v a)) where

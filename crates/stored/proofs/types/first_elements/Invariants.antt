@@ -11,7 +11,7 @@ use Rattle.lists.specs.Part.{over}
 use Rattle.lists.proofs.Laws.Over.{over_at_lem}
 use Rattle.stored.specs.Limits.{max_types}
 use Rattle.stored.specs.Layout.{table, firsts_from}
-use Rattle.stored.proofs.Laws.Types.{length-firsts, firsts_next}
+use Rattle.stored.proofs.Laws.Types.{length_firsts, firsts_next}
 use Rattle.stored.proofs.types.first_elements.Given as goal
 
 pub record Listed (types first : List ℕ) (x t : ℕ) : Type 0 where
@@ -27,7 +27,7 @@ start types = record { within = omega arith; small = omega arith; so_far = refl;
 module _ (types first : List ℕ) (x t : ℕ) (i : Listed types first x t) where
   module _ (h : t < length types) where
     pub long : t < length (firsts_from 0 types)
-    long = omega (arith, length-firsts 0 types)
+    long = omega (arith, length_firsts 0 types)
 
     -- the next to be listed is x
     pub next : get_or (firsts_from 0 types) t 0 ∷ drop (t + 1) (firsts_from 0 types) ≡ x ∷ firsts_from (x + get_or types t 0) (drop (t + 1) types)
@@ -46,7 +46,7 @@ module _ (types first : List ℕ) (x t : ℕ) (i : Listed types first x t) where
     more few k = record { within = omega arith; small = omega (arith, i.small); so_far = written few; rest = cc next }
 
   pub done : length types ≤ t → first ≡ table (firsts_from 0 types)
-  done h = i.so_far ∙ rw (take_all t (firsts_from 0 types) (omega (arith, length-firsts 0 types)))
+  done h = i.so_far ∙ rw (take_all t (firsts_from 0 types) (omega (arith, length_firsts 0 types)))
 
 abbrev pub invariant-loop-t : goal.invariant-loop-t
 invariant-loop-t l = Listed l.types l.first l.x l.t
