@@ -4,7 +4,7 @@ ghost use Rattle.search.specs.Answer.{numbers, answer_of, written, worked};
 ghost use Rattle.search.specs.Find.{find_files, under_files};
 ghost use Rattle.bizakoma.specs.Numbers.{number_of, carried_of};
 
-use crate::numbers::{Carried, tell_searched};
+use crate::numbers::{Carried, Numbers};
 use search::find::{find, find_under, find_with_pairs};
 
 // An isomorphism of two models.
@@ -23,7 +23,7 @@ pub extern "C" fn bizakoma_find(
     ensures work { work.new ≡ worked (find_files left.now right.now [] budget (length map.old) (length work.old)) work.old }
 {
     let answer = find(left, right, budget, map, work);
-    tell_searched(answer, carried)
+    Numbers::from(answer).tell(carried)
 }
 
 // An isomorphism that takes each pair's first to its second.
@@ -43,7 +43,7 @@ pub extern "C" fn bizakoma_find_with_pairs(
     ensures work { work.new ≡ worked (find_files left.now right.now pairs.now budget (length map.old) (length work.old)) work.old }
 {
     let answer = find_with_pairs(left, right, pairs, budget, map, work);
-    tell_searched(answer, carried)
+    Numbers::from(answer).tell(carried)
 }
 
 // An isomorphism that takes a base's map to the left to its map to the right.
@@ -65,5 +65,5 @@ pub extern "C" fn bizakoma_find_under(
     ensures work { work.new ≡ worked (under_files base.now left.now right.now to_left.now to_right.now budget (length map.old) (length work.old)) work.old }
 {
     let answer = find_under(base, left, right, to_left, to_right, budget, map, work);
-    tell_searched(answer, carried)
+    Numbers::from(answer).tell(carried)
 }

@@ -8,7 +8,7 @@ ghost use Rattle.rows.specs.Identity.{identity_file};
 ghost use Rattle.rows.specs.Inverse.{inverse_files};
 ghost use Rattle.bizakoma.specs.Numbers.{number_of, carried_of};
 
-use crate::numbers::{Carried, tell_answer, tell_applied};
+use crate::numbers::{Carried, Numbers};
 use rows::apply::apply;
 use rows::check::check;
 use rows::compose::compose;
@@ -24,7 +24,7 @@ pub extern "C" fn bizakoma_identity(model: &[u8], map: &mut [u8], carried: &mut 
     ensures output { map.new ≡ written (identity_file model.now (length map.old)) map.old }
 {
     let answer = identity(model, map);
-    tell_answer(answer, carried)
+    Numbers::from(answer).tell(carried)
 }
 
 // Whether a pair list gives a map: the map, or why not.
@@ -41,7 +41,7 @@ pub extern "C" fn bizakoma_check(
     ensures output { map.new ≡ written (check_files source.now target.now pairs.now (length map.old)) map.old }
 {
     let answer = check(source, target, pairs, map);
-    tell_answer(answer, carried)
+    Numbers::from(answer).tell(carried)
 }
 
 // Where an element goes: the image's representative.
@@ -56,8 +56,8 @@ pub extern "C" fn bizakoma_apply(
     ensures number { result ≡ number_of (applied_numbers (apply_files source.now target.now map.now element)) }
     ensures carried { carried.new ≡ carried_of (applied_numbers (apply_files source.now target.now map.now element)) }
 {
-    let answer = apply(source, target, map, Element(element as u16));
-    tell_applied(answer, carried)
+    let answer = apply(source, target, map, Element(u16::from(element)));
+    Numbers::from(answer).tell(carried)
 }
 
 // One map, then another.
@@ -76,7 +76,7 @@ pub extern "C" fn bizakoma_compose(
     ensures output { map.new ≡ written (compose_files source.now middle.now target.now first.now second.now (length map.old)) map.old }
 {
     let answer = compose(source, middle, target, first, second, map);
-    tell_answer(answer, carried)
+    Numbers::from(answer).tell(carried)
 }
 
 // The inverse of a map, or that there is none.
@@ -93,5 +93,5 @@ pub extern "C" fn bizakoma_inverse(
     ensures output { inverse.new ≡ written (inverse_files source.now target.now map.now (length inverse.old)) inverse.old }
 {
     let answer = invert(source, target, map, inverse);
-    tell_answer(answer, carried)
+    Numbers::from(answer).tell(carried)
 }

@@ -1,13 +1,12 @@
 -- "It prints one line: the number, the carried values, on 0 the map, `-` for 255." Numbers are in decimal, with single spaces between them, and the line ends
 -- with one line feed. The line is bytes: 10 is the line feed, 32 the space, 45 `-`, and 48 `0`.
-use Rattle.std.specs.Prelude.{ℕ, zero, suc, ◌+◌, ◌/◌, ◌%◌, true, false, List, [], ◌∷◌, ◌++◌, map, eqb, ltb}
+use Rattle.std.specs.Prelude.{ℕ, zero, suc, ◌+◌, ◌/◌, ◌%◌, true, false, List, [], ◌∷◌, ◌++◌, map, eqb, ltb, Option, Some, None}
 use Rattle.lists.specs.Part.{part}
 use Rattle.search.specs.Machine.{found, none, exhausted}
 use Rattle.search.specs.Answer.{Outcome, ended, refused, numbers, answer_of, work_room}
 use Rattle.search.specs.Find.{find_files}
 use Rattle.job.specs.declared.reader.Value.{Value}
-use Rattle.job.specs.declared.job.Reading.{Reading}
-use Rattle.job.specs.declared.job.Reading.TheVariants.{Job, Broken}
+use Rattle.job.specs.declared.job.Job.{Job}
 use Rattle.job.specs.Job.{job_of}
 
 -- the digits of a number that is below the fuel
@@ -56,9 +55,9 @@ abbrev pub map_room : ℕ
 map_room = 64
 
 -- the line that answers a job; 21 "job file broken (program)"
-unfoldable pub answer_to : List ℕ → Reading → List ℕ
-answer_to s (Job left right pairs budget) = found_line (find_files (value_in s left) (value_in s right) (value_in s pairs) budget map_room work_room)
-answer_to s Broken = line_with (21 ∷ []) []
+unfoldable pub answer_to : List ℕ → Option Job → List ℕ
+answer_to s (Some job) = found_line (find_files (value_in s job.left) (value_in s job.right) (value_in s job.pairs) job.budget map_room work_room)
+answer_to s None = line_with (21 ∷ []) []
 
 unfoldable pub line_of : List ℕ → List ℕ
 line_of s = answer_to s (job_of s)

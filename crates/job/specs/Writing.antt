@@ -1,9 +1,9 @@
 -- What the functions that write a line say of it, and the room they need. The line itself is `line_of`, in `Line.antt`.
-use Rattle.std.specs.Prelude.{ℕ, ◌+◌, ◌≡◌, List, ◌++◌, length, take}
+use Rattle.std.specs.Prelude.{ℕ, ◌+◌, ◌≡◌, List, ◌++◌, length, take, Ok, Err}
 use Rattle.stored.specs.Model.{size}
 use Rattle.stored.specs.Parse.{model, fault, parse}
-use Rattle.search.specs.declared.answer.Answer.{Answer}
-use Rattle.search.specs.declared.answer.Answer.TheVariants as answer
+use Rattle.search.specs.Answer.{Answer}
+use Rattle.search.specs.declared.answer.Verdict.TheVariants as verdict
 
 -- up to r the line holds what it held up to a place, then a text
 pub record Added (line : List ℕ) (at : ℕ) (text : List ℕ) (r : ℕ) (after : List ℕ) : Type 0 where
@@ -24,7 +24,7 @@ elements_in s = elim (parse s) [ model m ↦ size m | fault f ↦ 0 ]
 
 -- how many entries the map of an answer has, by the file of the left model
 unfoldable pub entries_of : Answer → List ℕ → ℕ
-entries_of (answer.Found u) left = elements_in left
-entries_of (answer.None u) left = 0
-entries_of (answer.Exhausted u) left = 0
-entries_of (answer.Refused r) left = 0
+entries_of (Ok (verdict.Found u)) left = elements_in left
+entries_of (Ok (verdict.None u)) left = 0
+entries_of (Ok (verdict.Exhausted u)) left = 0
+entries_of (Err r) left = 0

@@ -1,25 +1,25 @@
-// A reader of fields: it holds the bytes of a job and its place in them.
-//
-// `new` and `next` are over the struct: `next` takes it apart and asks the cursor of `stored`. `field_at`, above them, has plain parameters, and
-// serves every other caller.
-ghost use Rattle.std.specs.Prelude.{◌≡◌};
-ghost use Rattle.stored.specs.Field.{field_at};
+// A reader of fields: it holds the bytes of a job and its place in them, and asks the cursor of `stored`.
+ghost use Rattle.std.specs.Prelude.{◌≡◌, ◌+◌, ◌≤◌, length, None, Some, MatchOption};
+ghost use Rattle.job.specs.Line.{value_in};
 ghost use Rattle.job.specs.Reader.{due_at};
 
-use stored::field::{Cursor, Next};
+use stored::field::Cursor;
 
 // Where the value of a field stands: `len` bytes from `start`.
-#[derive(Drop)]
+#[derive(Clone, Copy)]
 pub struct Value {
     pub start: usize,
     pub len: usize,
 }
 
-// The field that is due at a place, with the place just past it; or another, or none.
-#[derive(Drop)]
-pub enum Due {
-    There { value: Value, past: usize },
-    Missing,
+impl Value {
+    // The bytes of the value, in the job that it stands in.
+    pub(crate) fn of(self, job: &[u8]) -> &[u8]
+        requires { self.start + self.len ≤ length job.now }
+        ensures { result.now ≡ value_in job.now self }
+    {
+        &job[self.start..self.start + self.len]
+    }
 }
 
 // The bytes, and the place in them.
@@ -29,47 +29,30 @@ pub struct Reader<'a> {
     pub at: usize,
 }
 
-// A reader at a place of some bytes.
-fn new<'a>(src: &'a [u8], at: usize) -> Reader<'a>
-    ensures { (result.src ≡ src.entry) × (result.at ≡ at) }
-{
-    Reader { src, at }
-}
+impl<'a> Reader<'a> {
+    // A reader at the start of some bytes.
+    pub(crate) fn new(src: &'a [u8]) -> Reader<'a>
+        ensures { (result.src ≡ src.entry) × (result.at ≡ 0) }
+    {
+        Reader { src, at: 0 }
+    }
 
-// The field at the reader's place.
-fn next<'a>(r: Reader<'a>) -> Next
-    ensures { result ≡ field_at r.entry.src.now r.entry.at }
-{
-    let cursor = Cursor { at: r.at };
-    cursor.field(r.src)
-}
-
-// The field at a place of some bytes.
-fn field_at(src: &[u8], at: usize) -> Next
-    ensures { result ≡ field_at src.now at }
-{
-    next(new(src, at))
-}
-
-// The field at a place of some bytes, if it has the tag that is due.
-pub(crate) fn field_due(src: &[u8], at: usize, tag: u8) -> Due
-    ensures { result ≡ due_at src.now tag at }
-{
-    match field_at(src, at) {
-        Next::Field {
-            tag: found,
-            start,
-            len,
-            next,
-        } => {
-            if found != tag {
-                return Due::Missing;
-            }
-            Due::There {
-                value: Value { start, len },
-                past: next.at,
-            }
+    // The value of the field at the reader's place, if it has the tag that is due: then the reader is past it, and else where it was.
+    #[tactic(auto, unfolding(crate::specs::Reader::due_at))]
+    pub(crate) fn due(&mut self, tag: u8) -> Option<Value>
+        ensures src { self.new.src ≡ self.old.src }
+        ensures field { MatchOption result
+            ((due_at self.old.src.now tag self.old.at ≡ None) × (self.new.at ≡ self.old.at))
+            (λ value. due_at self.old.src.now tag self.old.at ≡ Some (record { value = value; past = self.new.at })) }
+    {
+        let field = Cursor { at: self.at }.field(self.src).ok()?;
+        if field.tag != tag {
+            return None;
         }
-        Next::Fault(_) => Due::Missing,
+        self.at = field.next.at;
+        Some(Value {
+            start: field.start,
+            len: field.len,
+        })
     }
 }

@@ -5,21 +5,21 @@ use mathlib.Core.Path.{◌≡◌, refl, sym, ◌∙◌, ap}
 use mathlib.Core.List.{List, [], ◌∷◌}
 use native.Mathlib.Omega.{arith}
 use lib.ListN.{length, get_or, get_or-eq_default}
+use Rattle.std.proofs.Common.{Result, Ok, Err}
+use Rattle.stored.specs.declared.model.Element.{Element}
 use Rattle.stored.specs.declared.refusal.Refusal.{Refusal}
 use Rattle.stored.specs.declared.refusal.Refusal.TheVariants.{Malformed, NoRoom, NotCanonical, SignaturesDiffer, UnknownElement, TypesDiffer, ImageMissing, ConflictingImages, RelationNotKept, NotAMap, OddPairs}
 use Rattle.stored.specs.Refusal as refusal
-use Rattle.rows.specs.declared.answer.Answer.{Answer}
-use Rattle.rows.specs.declared.answer.Answer.TheVariants as answer
-use Rattle.rows.specs.declared.answer.Applied.{Applied}
-use Rattle.rows.specs.declared.answer.Applied.TheVariants as applied
-use Rattle.rows.specs.Answer.{numbers, applied_numbers, Outcome, answer_of, written}
+use Rattle.rows.specs.declared.answer.Ended.TheVariants as ended
+use Rattle.rows.specs.Answer.{Answer, numbers, applied_numbers, Outcome, answer_of, written}
 use Rattle.rows.specs.Check.{check_files}
 use Rattle.rows.specs.Identity.{identity_file}
 use Rattle.rows.specs.Apply.{apply_files}
 use Rattle.rows.specs.Compose.{compose_files}
 use Rattle.rows.specs.Inverse.{inverse_files}
-use Rattle.search.specs.declared.answer.Answer.{Answer as Search}
-use Rattle.search.specs.declared.answer.Answer.TheVariants as search
+use Rattle.std.specs.Prelude.{Ok, Err}
+use Rattle.search.specs.declared.answer.Verdict.TheVariants as verdict
+use Rattle.search.specs.Answer.{Answer as Search}
 use Rattle.search.specs.Answer as found
 use Rattle.search.specs.Find.{find_files, under_files}
 
@@ -65,36 +65,36 @@ refused_told others refused r few = let told = refusal_told r in get_or-eq_defau
 
 -- the answers of the calls on maps, of apply, and of the search, by their numbers
 abbrev answer_by : List ℕ → Answer
-answer_by l = get_or (answer.Accepted ∷ answer.None ∷ []) (number_of l) (answer.Refused (refusal_of l))
+answer_by l = get_or (Ok ended.Accepted ∷ Ok ended.None ∷ []) (number_of l) (Err (refusal_of l))
 
 pub answer_told : (r : Answer) → answer_by (numbers r) ≡ r
-answer_told answer.Accepted = refl
-answer_told answer.None = refl
-answer_told (answer.Refused r) = refused_told (answer.Accepted ∷ answer.None ∷ []) answer.Refused r (omega arith)
+answer_told (Ok ended.Accepted) = refl
+answer_told (Ok ended.None) = refl
+answer_told (Err r) = refused_told (Ok ended.Accepted ∷ Ok ended.None ∷ []) (λ (x : Refusal). Err x) r (omega arith)
 
-abbrev applied_by : List ℕ → Applied
-applied_by l = get_or (applied.Image (record { 0 = get_or l 1 0 }) ∷ []) (number_of l) (applied.Refused (refusal_of l))
+abbrev applied_by : List ℕ → Result Element Refusal
+applied_by l = get_or (Ok (record { 0 = get_or l 1 0 }) ∷ []) (number_of l) (Err (refusal_of l))
 
-pub applied_told : (r : Applied) → applied_by (applied_numbers r) ≡ r
-applied_told (applied.Image e) = refl
-applied_told (applied.Refused r) = refused_told (applied.Image (record { 0 = get_or (refusal.numbers r) 1 0 }) ∷ []) applied.Refused r (omega arith)
+pub applied_told : (r : Result Element Refusal) → applied_by (applied_numbers r) ≡ r
+applied_told (Ok e) = refl
+applied_told (Err r) = refused_told (Ok (record { 0 = get_or (refusal.numbers r) 1 0 }) ∷ []) (λ (x : Refusal). Err x) r (omega arith)
 
 abbrev search_by : List ℕ → Search
-search_by l = get_or (search.Found (get_or l 1 0) ∷ search.None (get_or l 1 0) ∷ search.Exhausted (get_or l 1 0) ∷ []) (number_of l) (search.Refused (refusal_of l))
+search_by l = get_or (Ok (verdict.Found (get_or l 1 0)) ∷ Ok (verdict.None (get_or l 1 0)) ∷ Ok (verdict.Exhausted (get_or l 1 0)) ∷ []) (number_of l) (Err (refusal_of l))
 
 pub search_told : (r : Search) → search_by (found.numbers r) ≡ r
-search_told (search.Found u) = refl
-search_told (search.None u) = refl
-search_told (search.Exhausted u) = refl
-search_told (search.Refused r) =
+search_told (Ok (verdict.Found u)) = refl
+search_told (Ok (verdict.None u)) = refl
+search_told (Ok (verdict.Exhausted u)) = refl
+search_told (Err r) =
     let u = get_or (refusal.numbers r) 1 0 in
-    refused_told (search.Found u ∷ search.None u ∷ search.Exhausted u ∷ []) search.Refused r (omega arith)
+    refused_told (Ok (verdict.Found u) ∷ Ok (verdict.None u) ∷ Ok (verdict.Exhausted u) ∷ []) Err r (omega arith)
 
 -- so equal numbers are of one answer
 pub one_answer : (r q : Answer) → numbers r ≡ numbers q → r ≡ q
 one_answer r q e = sym (answer_told r) ∙ ap answer_by e ∙ answer_told q
 
-pub one_applied : (r q : Applied) → applied_numbers r ≡ applied_numbers q → r ≡ q
+pub one_applied : (r q : Result Element Refusal) → applied_numbers r ≡ applied_numbers q → r ≡ q
 one_applied r q e = sym (applied_told r) ∙ ap applied_by e ∙ applied_told q
 
 pub one_search : (r q : Search) → found.numbers r ≡ found.numbers q → r ≡ q
@@ -131,7 +131,7 @@ module _ (out : List ℕ) (r q : Answer) (after other : List ℕ) where
   pub inverse_unique : (s t f : List ℕ) → Meets (inverse_files s t f (length out)) out r after → Meets (inverse_files s t f (length out)) out q other → (r ≡ q) × (after ≡ other)
   inverse_unique s t f = unique (inverse_files s t f (length out)) out r q after other
 
-pub apply_unique : (s t f : List ℕ) (x : ℕ) (r q : Applied) → applied_numbers r ≡ applied_numbers (apply_files s t f x) → applied_numbers q ≡ applied_numbers (apply_files s t f x) → r ≡ q
+pub apply_unique : (s t f : List ℕ) (x : ℕ) (r q : Result Element Refusal) → applied_numbers r ≡ applied_numbers (apply_files s t f x) → applied_numbers q ≡ applied_numbers (apply_files s t f x) → r ≡ q
 apply_unique s t f x r q m n = one_applied r q (m ∙ sym n)
 
 module _ (budget : ℕ) (out work : List ℕ) (r q : Search) (after other left rest : List ℕ) where

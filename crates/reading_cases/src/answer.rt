@@ -1,63 +1,41 @@
-// The reader's answers, and how they are written to standard output.
-use stored::read::{Answer, read};
+// The reader's answers, and how they are written in a row.
+use std::fmt;
+use stored::read::read;
+use stored::refusal::Fault;
 
-// What the reader answers.
-pub(crate) fn of(s: &[u8]) -> Answer {
-    let reading = read(s);
-    reading.answer
-}
+// What the reader answers: the fault of some bytes, or none where they hold a model.
+#[derive(Clone, Copy, PartialEq, Eq)]
+pub(crate) struct Answer(pub(crate) Option<Fault>);
 
-// Whether two answers are equal.
-pub(crate) fn same(a: Answer, b: Answer) -> bool {
-    match a {
-        Answer::Model => match b {
-            Answer::Model => true,
-            Answer::Fault(_) => false,
-        },
-        Answer::Fault(f) => match b {
-            Answer::Model => false,
-            Answer::Fault(g) => f.offset == g.offset,
-        },
+impl Answer {
+    // What the reader answers on some bytes.
+    pub(crate) fn on(s: &[u8]) -> Answer {
+        Answer(read(s).err())
     }
 }
 
-// A number, in decimal.
-pub(crate) fn say_number(n: usize) {
-    io::print_decimal(1, n as u64);
-}
-
-// The end of a line.
-pub(crate) fn say_line_end() {
-    io::write_all(1, b"\n");
-}
-
-// A line that is no case.
-pub(crate) fn say_broken_case() {
-    io::write_all(1, b"?\n");
-}
-
-// An answer that has a line for itself.
-pub(crate) fn say(answer: Answer) {
-    match answer {
-        Answer::Model => {
-            io::write_all(1, b"model\n");
-        }
-        Answer::Fault(f) => {
-            say_number(f.offset);
-            say_line_end();
+// An answer in a row of several: short.
+impl fmt::Display for Answer {
+    fn fmt<W: fmt::Write>(&self, f: &mut fmt::Formatter<W>) -> fmt::Result {
+        match self.0 {
+            None => write!(f, "m"),
+            Some(fault) => write!(f, "{}", fault.offset),
         }
     }
 }
 
-// An answer in a row of several: short, and with a space before it if it is not the first.
-pub(crate) fn say_in_row(answer: Answer, is_first: bool) {
-    if !is_first {
-        io::write_all(1, b" ");
-    }
-    match answer {
-        Answer::Model => {
-            io::write_all(1, b"m");
+// The answers on every cut of a file, a space between them.
+#[derive(Drop)]
+pub(crate) struct Cuts<'a>(pub(crate) &'a [u8]);
+
+impl fmt::Display for Cuts<'_> {
+    fn fmt<W: fmt::Write>(&self, f: &mut fmt::Formatter<W>) -> fmt::Result {
+        for n in 0..self.0.len() {
+            if 0 < n {
+                write!(f, " ")?;
+            }
+            write!(f, "{}", Answer::on(&self.0[..n]))?;
         }
-        Answer::Fault(f) => say_number(f.offset),
+        Ok(())
     }
 }

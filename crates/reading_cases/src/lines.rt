@@ -1,69 +1,50 @@
 // The lines of the input, each a case.
-ghost use Rattle.std.specs.Prelude.{◌≤◌, length};
+use crate::answer::{Answer, Cuts};
+use crate::changes;
+use std::io;
 
-use crate::{answer, changes, hex};
+// The most bytes of a file in a case. A good file has at most 2,361.
+const MOST: usize = 4096;
 
-// Every cut of a file.
-fn replay_cuts(s: &[u8]) {
-    let mut n: usize = 0;
-    while n < s.len() {
-        answer::say_in_row(answer::of(&s[..n]), n == 0);
-        n += 1;
-    }
-    answer::say_line_end();
+// A line that is no case.
+fn replay_broken(out: &impl Print) -> io::Result<()> {
+    println!(out; "?")
 }
 
 // A case by its kind.
-fn replay_kind(kind: u8, file: &mut [u8]) {
+fn replay_kind(out: &impl Print, kind: u8, file: &mut [u8]) -> io::Result<()> {
     match kind {
-        b'=' => answer::say(answer::of(file)),
-        b'<' => replay_cuts(file),
-        b'~' => changes::replay(file),
-        _ => answer::say_broken_case(),
+        b'=' => match Answer::on(file).0 {
+            None => println!(out; "model"),
+            Some(fault) => println!(out; "{}", fault.offset),
+        },
+        b'<' => println!(out; "{}", Cuts(file)),
+        b'~' => changes::replay(out, file),
+        _ => replay_broken(out),
     }
 }
 
-// A line. One with more than 4,096 bytes in hex is broken: there is no room for them, and a good file has at most 2,361.
-fn replay(line: &[u8]) {
-    if line.len() < 1 {
-        answer::say_broken_case();
-        return;
+// A line. One with more bytes than there is room for is broken, and so is one with a digit in upper case, which `hex` would take.
+fn replay(out: &impl Print, line: &[u8]) -> io::Result<()> {
+    let Some((kind, digits)) = line.split_first() else {
+        return replay_broken(out);
+    };
+    let size = digits.len() / 2;
+    if MOST < size || digits.iter().any(|c| c.is_ascii_uppercase()) {
+        return replay_broken(out);
     }
-    let text = &line[1..];
-    if 8192 < text.len() {
-        answer::say_broken_case();
-        return;
+    let mut bytes = [0; MOST];
+    let file = &mut bytes[..size];
+    match hex::decode_to_slice(digits, file) {
+        Ok(()) => replay_kind(out, *kind, file),
+        Err(_) => replay_broken(out),
     }
-    if !hex::is_hex(text) {
-        answer::say_broken_case();
-        return;
-    }
-    let mut bytes = io::buffer();
-    let n = hex::decode(text, &mut bytes);
-    replay_kind(line[0], &mut bytes[..n]);
 }
 
-// Where the line that starts at a place ends: at its line feed, or at the end of the text.
-fn end_of_line(text: &[u8], start: usize) -> usize
-    requires { start ≤ length text.now }
-    ensures { (start ≤ result) × (result ≤ length text.now) }
-{
-    let mut at = start;
-    while at < text.len() {
-        if text[at] == b'\n' {
-            return at;
-        }
-        at += 1;
+// All lines. The last may have no line feed.
+pub(crate) fn replay_all(out: &impl Print, text: &[u8]) -> io::Result<()> {
+    for line in text.split_inclusive(|c| *c == b'\n') {
+        replay(out, line.strip_suffix(b"\n").unwrap_or(line))?;
     }
-    at
-}
-
-// All lines.
-pub(crate) fn replay_all(text: &[u8]) {
-    let mut at: usize = 0;
-    while at < text.len() {
-        let end = end_of_line(text, at);
-        replay(&text[at..end]);
-        at = end + 1;
-    }
+    Ok(())
 }

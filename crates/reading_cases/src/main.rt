@@ -12,25 +12,22 @@
 
 mod answer;
 mod changes;
-mod hex;
 mod lines;
 
-ghost use Rattle.std.specs.Prelude.{◌≡◌, length};
+use std::io;
+use std::io::Read;
 
-// Room for all of standard input. The `ensures` gives only the length, which lending the array as a slice needs.
-fn input_buffer() -> [u8; 262144]
-    ensures { 262144 ≡ length result }
-{
-    [0; 262144]
-}
+// An input of so many bytes or more is not replayed, since it may go on past the room for it.
+const TOO_MANY: usize = 262144;
 
-// An input of 262,144 bytes or more is not replayed, since it may go on past the buffer.
-fn main() {
-    let mut buf = input_buffer();
-    let n = io::read_full(0, &mut buf);
-    if n < 262144 {
-        lines::replay_all(&buf[..n]);
+// Where reading fails the input ends, and where writing fails the output: the status is 0 all the same.
+fn main(rt: HostRuntime) -> io::Result<()> {
+    let mut input = Vec::with_capacity(rt.alloc(), TOO_MANY)?;
+    let _ = rt.reader().take(TOO_MANY as u64).read_to_end(&mut input);
+    let _ = if input.len() < TOO_MANY {
+        lines::replay_all(&rt, &input)
     } else {
-        io::write_all(1, b"too many cases\n");
-    }
+        println!(rt; "too many cases")
+    };
+    Ok(())
 }

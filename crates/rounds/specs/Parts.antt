@@ -1,12 +1,12 @@
 -- What functions on parts of a file answer: the first colours, the representatives and their colours by the types and the roots in place of a model,
 -- and counts and classes by the lists of those colours.
-use Rattle.std.specs.Prelude.{ℕ, ◌+◌, ◌≡◌, Bool, true, false, not, ◌&&◌, List, map, length, get_or, eqb, ltb}
+use Rattle.std.specs.Prelude.{ℕ, ◌+◌, ◌≡◌, Bool, true, false, not, ◌&&◌, List, map, length, get_or, eqb, ltb, Option}
 use Rattle.lists.specs.Every.{all, keep, how_many}
 use Rattle.lists.specs.Numbers.{up_from}
 use Rattle.stored.specs.Types.{type_in}
 use Rattle.stored.specs.Model.{is_rep_in}
 use Rattle.rounds.specs.Colours.{no_colour, colour_at, paired}
-use Rattle.rounds.specs.Classes.{Open, smaller}
+use Rattle.rounds.specs.Classes.{smaller}
 
 -- the representatives below a number, ascending, and their colours
 unfoldable pub reps_below : List ℕ → ℕ → List ℕ
@@ -61,5 +61,5 @@ unfoldable pub is_filled : List ℕ → ℕ → Bool
 is_filled table k = not (eqb (get_or table k 0) 0)
 
 -- the smallest open class of the colours from k on, given that of those after k
-unfoldable pub smallest_with : List ℕ → ℕ → Open → Open
+unfoldable pub smallest_with : List ℕ → ℕ → Option ℕ → Option ℕ
 smallest_with colours k later = elim (ltb (how_many (eqb k) colours) 2) [ true ↦ later | false ↦ smaller colours k later ]

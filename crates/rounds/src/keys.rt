@@ -29,15 +29,14 @@ fn count_up(board: &mut [u16], from: usize, end: usize)
     ensures counts { Counts count_start (segment from end board.old) board.new }
     ensures kept { OnlyTable count_start board.old board.new }
 {
-    let mut i = from;
-    while i < end {
+    for i in from..end {
         let at = COUNTS + board[NUMBERS + i] as usize;
         board[at] += 1;
-        i += 1;
     }
 }
 
 // Takes a segment's numbers off the counts; tells whether there were enough of each, and stops where there were not.
+// A bool is the plainer form: the counts are lent, and the caller asks whether there were enough.
 fn count_down(board: &mut [u16], from: usize, end: usize) -> bool
     requires { Segment from end board.old }
     ensures enough { result ≡ true → (n : ℕ) → n < 4096 → get_or board.new (count_start + n) 0 + how_many (eqb n) (segment from end board.old) ≡ get_or board.old (count_start + n) 0 }
@@ -45,15 +44,13 @@ fn count_down(board: &mut [u16], from: usize, end: usize) -> bool
     ensures fewer { (n : ℕ) → n < 4096 → get_or board.new (count_start + n) 0 ≤ get_or board.old (count_start + n) 0 }
     ensures kept { OnlyTable count_start board.old board.new }
 {
-    let mut i = from;
-    while i < end {
+    for i in from..end {
         let at = COUNTS + board[NUMBERS + i] as usize;
         let count = board[at];
         if count == 0 {
             return false;
         }
         board[at] = count - 1;
-        i += 1;
     }
     true
 }
@@ -64,11 +61,9 @@ fn clear_counts(board: &mut [u16], from: usize, end: usize)
     ensures emptied { Empty count_start board.new }
     ensures kept { OnlyTable count_start board.old board.new }
 {
-    let mut i = from;
-    while i < end {
+    for i in from..end {
         let at = COUNTS + board[NUMBERS + i] as usize;
         board[at] = 0;
-        i += 1;
     }
 }
 
@@ -77,18 +72,18 @@ pub(crate) fn mark_of(board: &[u16], cells: usize, x: usize) -> u64
     requires { Ready cells board.now × (x < 128) }
     ensures { result ≡ mark_on cells board.now x }
 {
+    let from = board[STARTS + x] as usize;
     let end = end_of(board, cells, x);
     let mut sum: u64 = 0;
-    let mut i = board[STARTS + x] as usize;
-    while i < end {
+    for i in from..end {
         let n = board[NUMBERS + i] as u64;
         sum += n * n * n + 1;
-        i += 1;
     }
     sum
 }
 
 // Whether each number stands as often in two segments. The table is empty before and after.
+// A bool answers the question: the board is lent to count in and comes back as it was.
 fn same_numbers(
     board: &mut [u16],
     from: usize,
@@ -112,6 +107,7 @@ fn same_numbers(
 }
 
 // Whether two elements have as many places of each number.
+// A bool answers the question: the board is lent to count in and comes back as it was.
 fn same_places(board: &mut [u16], cells: usize, x: usize, y: usize) -> bool
     requires { Ready cells board.old × (x < 128) × (y < 128) }
     ensures answer { result ≡ same_numbers (places_on cells board.old x) (places_on cells board.old y) }
@@ -125,6 +121,7 @@ fn same_places(board: &mut [u16], cells: usize, x: usize, y: usize) -> bool
 }
 
 // Whether two elements have the same key (`refinement_keys` of model_hom.rs).
+// A bool answers the question: the board is lent to count in and comes back as it was.
 pub(crate) fn same_key(board: &mut [u16], cells: usize, x: usize, y: usize) -> bool
     requires { Ready cells board.old × (x < 128) × (y < 128) }
     ensures answer { result ≡ alike_on cells board.old x y }

@@ -3,12 +3,11 @@ ghost use Rattle.std.specs.Prelude.{◌≡◌, true, [], ◌∷◌, ℕ, ◌≤�
 ghost use Rattle.lists.specs.First.{first_at};
 ghost use Rattle.lists.specs.Numbers.{up_from};
 ghost use Rattle.lists.specs.Order.{same_row};
-ghost use Rattle.stored.specs.Signature.{signature, same_signature};
-ghost use Rattle.stored.specs.Reading.{Reads, model_of};
+ghost use Rattle.stored.specs.File.{held};
 ghost use Rattle.rounds.specs.Colours.{colour_at};
 ghost use Rattle.rounds.specs.Board.{board_room, count_start, colours_on, line_at, lines_on, code_of, buckets_for, bucket_of, bucket_at, Bucketed, kept_line, row_numbers_at, numbers_from, joined, cells_of, cells_on, Listed, NumbersAt, Scattered, Bucketing, Cleared, Renumbered, Empty};
 
-use stored::layout::Layout;
+use stored::matched::Matched;
 
 const POSITIONS: usize = 4096;
 
@@ -29,33 +28,31 @@ pub(crate) fn colour_of(board: &[u16], x: u16) -> u16
 }
 
 // Whether the colours along two rows of cells are the same.
+#[inline(always)]
 fn same_line(board: &[u16], p: usize, q: usize, arity: usize) -> bool
     requires { (length board.now ≡ board_room) × (p + arity ≤ 4096) × ((n : ℕ) → n < arity → get_or board.now (p + n) 0 < 128) × (q + arity ≤ 4096) × ((n : ℕ) → n < arity → get_or board.now (q + n) 0 < 128) }
     ensures { result ≡ same_row (line_at board.now p arity) (line_at board.now q arity) }
 {
-    let mut j: usize = 0;
-    while j < arity {
+    for j in 0..arity {
         let x = colour_of(board, board[p + j]);
         let y = colour_of(board, board[q + j]);
         if x != y {
             return false;
         }
-        j += 1;
     }
     true
 }
 
 // A code of the colours along a row of cells.
+#[inline(always)]
 fn code_of(board: &[u16], p: usize, arity: usize) -> usize
     requires { (length board.now ≡ board_room) × (p + arity ≤ 4096) × ((n : ℕ) → n < arity → get_or board.now (p + n) 0 < 128) }
     ensures { result ≡ code_of (line_at board.now p arity) }
 {
-    let mut code: usize = 0;
-    let mut j: usize = 0;
-    while j < arity {
-        let colour = colour_of(board, board[p + j]);
+    let mut code = 0;
+    for x in &board[p..p + arity] {
+        let colour = colour_of(board, *x);
         code = (code * 101 + colour as usize) % 4096;
-        j += 1;
     }
     code
 }
@@ -65,36 +62,23 @@ fn buckets_for(rows: usize) -> usize
     ensures { result ≡ buckets_for rows }
 {
     if rows <= 64 {
-        return 64;
+        64
+    } else if rows <= 512 {
+        512
+    } else {
+        4096
     }
-    if rows <= 512 {
-        return 512;
-    }
-    4096
 }
 
 // The bucket of a code, for so many rows.
 fn bucket_of(code: usize, rows: usize) -> usize
     ensures { result ≡ bucket_of rows code }
 {
-    if rows <= 64 {
-        return code % 64;
-    }
-    if rows <= 512 {
-        return code % 512;
-    }
-    code % 4096
-}
-
-// The bucket of two colours, for so many rows.
-fn bucket_two(c: u16, d: u16, rows: usize) -> usize
-    ensures { result ≡ bucket_of rows (code_of (c ∷ d ∷ [])) }
-{
-    let code = (c as usize % 4096 * 101 + d as usize) % 4096;
-    bucket_of(code, rows)
+    code % buckets_for(rows)
 }
 
 // The first cell of the first row with the colours of row `place`, whose first cell is p: that of a row in its bucket, or its own.
+#[inline(always)]
 fn first_line(
     board: &[u16],
     base: usize,
@@ -108,50 +92,10 @@ fn first_line(
     ensures { result ≡ base + first_at (same_row (get_or (lines_on board.now base arity rows) place [])) (lines_on board.now base arity rows) * arity }
 {
     let mut q = board[COUNTS + bucket] as usize;
+    // Follows links, no index is counted.
     while 0 < q {
         let at = q - 1;
         if same_line(board, p, at, arity) {
-            return at;
-        }
-        q = board[LINKS + at] as usize;
-    }
-    p
-}
-
-// Whether the two cells from p on have the colours c and d.
-fn same_two(board: &[u16], p: usize, c: u16, d: u16) -> bool
-    requires { (length board.now ≡ board_room) × (p + 2 ≤ 4096) × ((n : ℕ) → n < 2 → get_or board.now (p + n) 0 < 128) }
-    ensures { result ≡ same_row (c ∷ d ∷ []) (line_at board.now p 2) }
-{
-    let x = colour_of(board, board[p]);
-    if x != c {
-        return false;
-    }
-    let y = colour_of(board, board[p + 1]);
-    if y != d {
-        return false;
-    }
-    true
-}
-
-// The first cell of the first row with the colours c and d of row `place`, whose first cell is p: that of a row in its bucket, or its own.
-fn first_two(
-    board: &[u16],
-    base: usize,
-    rows: usize,
-    place: usize,
-    p: usize,
-    c: u16,
-    d: u16,
-    bucket: usize,
-) -> usize
-    requires { (length board.now ≡ board_room) × (base + rows * 2 ≤ 4096) × ((n : ℕ) → n < base + rows * 2 → get_or board.now n 0 < 128) × (place < rows) × (p ≡ base + place * 2) × (line_at board.now p 2 ≡ c ∷ d ∷ []) × (bucket ≡ bucket_at rows (lines_on board.now base 2 rows) place) × Bucketed base 2 rows (lines_on board.now base 2 rows) board.now place }
-    ensures { result ≡ base + first_at (same_row (get_or (lines_on board.now base 2 rows) place [])) (lines_on board.now base 2 rows) * 2 }
-{
-    let mut q = board[COUNTS + bucket] as usize;
-    while 0 < q {
-        let at = q - 1;
-        if same_two(board, at, c, d) {
             return at;
         }
         q = board[LINKS + at] as usize;
@@ -171,55 +115,33 @@ fn keep_line(board: &mut [u16], p: usize, first: usize, bucket: usize)
 }
 
 // Writes the numbers from `first` on at the positions of the cells from p on, so many.
+#[inline(always)]
 fn write_numbers(board: &mut [u16], cells: usize, p: usize, first: usize, count: usize)
     requires { Listed cells board.old × (p + count ≤ cells) × (first + count ≤ 4096) }
     ensures written { NumbersAt cells p (up_from first count) board.new }
     ensures kept { Scattered cells p board.old board.new }
 {
-    let mut j: usize = 0;
-    while j < count {
+    for j in 0..count {
         let position = board[POSITIONS + p + j] as usize;
         board[NUMBERS + position] = (first + j) as u16;
-        j += 1;
     }
 }
 
 // Numbers the cells of a relation that has columns, whose first cell is `base`; the heads of its buckets are left.
+#[inline(always)]
 fn number_rows(board: &mut [u16], cells: usize, base: usize, arity: usize, rows: usize)
     requires { Listed cells board.old × (base + rows * arity ≤ cells) × (1 ≤ arity) × Empty count_start board.old }
     ensures numbers { NumbersAt cells base (row_numbers_at base arity rows board.old) board.new }
     ensures kept { Bucketing cells base (buckets_for rows) board.old board.new }
 {
     let mut at = base;
-    let mut i: usize = 0;
-    while i < rows {
+    for i in 0..rows {
         let code = code_of(board, at, arity);
         let bucket = bucket_of(code, rows);
         let first = first_line(board, base, arity, rows, i, at, bucket);
         keep_line(board, at, first, bucket);
         write_numbers(board, cells, at, first, arity);
         at += arity;
-        i += 1;
-    }
-}
-
-// Numbers the cells of a relation of two columns, whose first cell is `base`; the heads of its buckets are left.
-fn number_twos(board: &mut [u16], cells: usize, base: usize, rows: usize)
-    requires { Listed cells board.old × (base + rows * 2 ≤ cells) × Empty count_start board.old }
-    ensures numbers { NumbersAt cells base (row_numbers_at base 2 rows board.old) board.new }
-    ensures kept { Bucketing cells base (buckets_for rows) board.old board.new }
-{
-    let mut at = base;
-    let mut i: usize = 0;
-    while i < rows {
-        let c = colour_of(board, board[at]);
-        let d = colour_of(board, board[at + 1]);
-        let bucket = bucket_two(c, d, rows);
-        let first = first_two(board, base, rows, i, at, c, d, bucket);
-        keep_line(board, at, first, bucket);
-        write_numbers(board, cells, at, first, 2);
-        at += 2;
-        i += 1;
     }
 }
 
@@ -228,11 +150,7 @@ pub(crate) fn clear_heads(board: &mut [u16], count: usize)
     requires { (length board.old ≡ board_room) × (count ≤ 4096) }
     ensures { Cleared count board.old board.new }
 {
-    let mut n: usize = 0;
-    while n < count {
-        board[COUNTS + n] = 0;
-        n += 1;
-    }
+    board[COUNTS..COUNTS + count].fill(0);
 }
 
 // Numbers the cells of a relation, whose first cell is `base`. The table of counts is empty before and after.
@@ -243,8 +161,9 @@ fn number_relation(board: &mut [u16], cells: usize, base: usize, arity: usize, r
 {
     if 0 < arity {
         let buckets = buckets_for(rows);
+        // A call of its own for two columns: with their number known, the loops along a row are unrolled.
         if arity == 2 {
-            number_twos(board, cells, base, rows);
+            number_rows(board, cells, base, 2, rows);
         } else {
             number_rows(board, cells, base, arity, rows);
         }
@@ -253,25 +172,18 @@ fn number_relation(board: &mut [u16], cells: usize, base: usize, arity: usize, r
 }
 
 // Numbers all cells of a board on which two models stand.
-pub(crate) fn number_cells(
-    left: &[u8],
-    in_left: Layout,
-    right: &[u8],
-    in_right: Layout,
-    board: &mut [u16],
-    cells: usize,
-)
-    requires { Reads left.now in_left × Reads right.now in_right × (same_signature (signature (model_of left.now)) (signature (model_of right.now)) ≡ true) × Listed cells board.old × Empty count_start board.old × (cells ≡ length (cells_of (joined (model_of left.now) (model_of right.now)))) × (cells_on cells board.old ≡ cells_of (joined (model_of left.now) (model_of right.now))) }
-    ensures numbers { NumbersAt cells 0 (numbers_from 0 (colours_on board.old) (joined (model_of left.now) (model_of right.now))) board.new }
+pub(crate) fn number_cells(both: &Matched<'_, '_>, board: &mut [u16], cells: usize)
+    requires { Listed cells board.old × Empty count_start board.old × (cells ≡ length (cells_of (joined (held both.now.left) (held both.now.right)))) × (cells_on cells board.old ≡ cells_of (joined (held both.now.left) (held both.now.right))) }
+    ensures numbers { NumbersAt cells 0 (numbers_from 0 (colours_on board.old) (joined (held both.now.left) (held both.now.right))) board.new }
     ensures kept { Renumbered cells 0 board.old board.new }
 {
     let mut at: usize = 0;
-    let mut k: usize = 0;
-    while k < in_left.relations {
-        let arity = in_left.arity[k];
-        let rows = in_left.count[k] + in_right.count[k];
+    let left = &both.left.layout;
+    let right = &both.right.layout;
+    for k in 0..left.relations {
+        let arity = left.arity[k];
+        let rows = left.count[k] + right.count[k];
         number_relation(board, cells, at, arity, rows);
         at += rows * arity;
-        k += 1;
     }
 }

@@ -8,6 +8,7 @@ pub mod Answer
 pub mod Files
 pub mod Given
 pub mod Outcome
+pub mod Chains
 pub mod Check
 pub mod Identity
 pub mod Apply

@@ -1,23 +1,26 @@
 -- "Numbers answered": 0 accepted, with the image's representative for apply; 1 no inverse; or a refusal. "On 0 the first n bytes hold the map and
 -- the rest are unchanged. On every other number the output is unchanged."
-use Rattle.std.specs.Prelude.{ℕ, List, [], ◌∷◌}
+use Rattle.std.specs.Prelude.{ℕ, List, [], ◌∷◌, Result, Ok, Err}
 use Rattle.lists.specs.Part.{over}
 use Rattle.stored.specs.declared.refusal.Refusal.{Refusal}
 use Rattle.stored.specs.Refusal as refusal
-use Rattle.rows.specs.declared.answer.Answer.{Answer}
-use Rattle.rows.specs.declared.answer.Answer.TheVariants as answer
-use Rattle.rows.specs.declared.answer.Applied.{Applied}
-use Rattle.rows.specs.declared.answer.Applied.TheVariants as applied
+use Rattle.stored.specs.declared.model.Element.{Element}
+use Rattle.rows.specs.declared.answer.Ended.{Ended}
+use Rattle.rows.specs.declared.answer.Ended.TheVariants as ended
+
+-- of a call that writes a map
+abbrev pub Answer : Type 0
+Answer = Result Ended Refusal
 
 -- the number of an answer, then the values it carries
 abbrev pub numbers : Answer → List ℕ
-numbers answer.Accepted = 0 ∷ []
-numbers answer.None = 1 ∷ []
-numbers (answer.Refused r) = refusal.numbers r
+numbers (Ok ended.Accepted) = 0 ∷ []
+numbers (Ok ended.None) = 1 ∷ []
+numbers (Err r) = refusal.numbers r
 
-abbrev pub applied_numbers : Applied → List ℕ
-applied_numbers (applied.Image e) = 0 ∷ e.0 ∷ []
-applied_numbers (applied.Refused r) = refusal.numbers r
+abbrev pub applied_numbers : Result Element Refusal → List ℕ
+applied_numbers (Ok e) = 0 ∷ e.0 ∷ []
+applied_numbers (Err r) = refusal.numbers r
 
 -- what a call that writes a map comes to
 pub data Outcome : Type 0 where
@@ -27,9 +30,9 @@ pub data Outcome : Type 0 where
 
 -- its answer
 unfoldable pub answer_of : Outcome → Answer
-answer_of (accepted f) = answer.Accepted
-answer_of none = answer.None
-answer_of (refused r) = answer.Refused r
+answer_of (accepted f) = Ok ended.Accepted
+answer_of none = Ok ended.None
+answer_of (refused r) = Err r
 
 -- its output
 unfoldable pub written : Outcome → List ℕ → List ℕ

@@ -1,12 +1,9 @@
 -- The files of a call, numbered from 1: "10 malformed: model (from 1), offset of the field".
-use Rattle.std.specs.Prelude.{ℕ, List}
+use Rattle.std.specs.Prelude.{ℕ, List, Result, Ok, Err}
 use Rattle.stored.specs.declared.refusal.Refusal.{Refusal}
 use Rattle.stored.specs.declared.refusal.Refusal.TheVariants.{Malformed}
 use Rattle.stored.specs.Model.{Model}
 use Rattle.stored.specs.Parse.{model, fault, parse}
-use Rattle.stored.specs.Layout.{layout_of, no_layout}
-use Rattle.rows.specs.declared.files.Verdict.TheVariants as verdict
-use Rattle.rows.specs.declared.files.Two.{Two}
 
 -- goes on with the model that a file holds, or refuses the file
 unfoldable pub with_model : {A : Type 0} → ℕ → (Refusal → A) → (Model → A) → List ℕ → A
@@ -16,9 +13,10 @@ with_model k refuse go s = elim (parse s) [ model m ↦ go m | fault f ↦ refus
 abbrev pub with_two : {A : Type 0} → (Refusal → A) → (Model → Model → A) → List ℕ → List ℕ → A
 with_two refuse go s t = with_model 1 refuse (λ (a : Model). with_model 2 refuse (λ (b : Model). go a b) t) s
 
--- two files read: their layouts, or the first of them that is malformed
-unfoldable pub refused_two : Refusal → Two
-refused_two r = record { verdict = verdict.Refused r; first = no_layout; second = no_layout }
+-- a file read, the k-th of a call: its model, or that it is malformed
+unfoldable pub model_read : ℕ → List ℕ → Result Model Refusal
+model_read k s = with_model k (λ (r : Refusal). Err r) (λ (m : Model). Ok m) s
 
-unfoldable pub both_read : Model → Model → Two
-both_read a b = record { verdict = verdict.Models; first = layout_of a; second = layout_of b }
+-- two files read: their models, or the first of them that is malformed
+unfoldable pub two_read : List ℕ → List ℕ → Result (Model × Model) Refusal
+two_read s t = with_two (λ (r : Refusal). Err r) (λ (a b : Model). Ok (a, b)) s t

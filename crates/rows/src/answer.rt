@@ -1,18 +1,12 @@
 // What the calls answer. `specs/Answer.antt` gives the number and the carried values of each.
-use stored::model::Element;
 use stored::refusal::Refusal;
 
-// Of a call that writes a map.
-#[derive(Clone, Copy)]
-pub enum Answer {
+// How a call that writes a map ends where it refuses nothing: with a map, or with the answer that there is none.
+#[derive(Clone, Copy, PartialEq, Eq)]
+pub enum Ended {
     Accepted,
     None,
-    Refused(Refusal),
 }
 
-// Of apply: the image's representative.
-#[derive(Clone, Copy)]
-pub enum Applied {
-    Image(Element),
-    Refused(Refusal),
-}
+// Of a call that writes a map.
+pub type Answer = Result<Ended, Refusal>;

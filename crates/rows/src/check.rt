@@ -4,115 +4,77 @@ ghost use Rattle.lists.specs.First.{lowest};
 ghost use Rattle.lists.specs.Part.{over};
 ghost use Rattle.stored.specs.Model.{size};
 ghost use Rattle.stored.specs.Signature.{signature, same_signature};
-ghost use Rattle.stored.specs.Reading.{Reads, model_of};
+ghost use Rattle.stored.specs.File.{held};
 ghost use Rattle.rows.specs.Answer.{numbers, answer_of, written};
 ghost use Rattle.rows.specs.Check.{is_missing, judged, check_models, check_files};
 
-use crate::answer::Answer;
-use crate::files::{Verdict, read_two};
-use crate::maps::{is_rep, no_images, unkept};
-use crate::pairs::{Pair, give};
-use stored::layout::Layout;
+use crate::answer::{Answer, Ended};
+use crate::files::read_two;
+use crate::maps::unkept;
+use crate::pairs::give;
+use stored::canonical::is_rep;
+use stored::file::File;
 use stored::model::{Element, RelationId};
 use stored::refusal::Refusal;
-use stored::signature::same_signature;
 
 // Copies bytes over the front of `out`.
 pub fn put(bytes: &[u8], out: &mut [u8])
     requires { length bytes.now ≤ length out.old }
     ensures { out.new ≡ over bytes.now out.old }
 {
-    let mut j: usize = 0;
-    while j < bytes.len() {
-        out[j] = bytes[j];
-        j += 1;
-    }
+    out[..bytes.len()].copy_from_slice(bytes);
 }
 
 // The lowest representative without an image; the number of elements where each has one.
+// No Option: 255 stands for none in the bytes of a map, which C lends.
 fn first_missing(roots: &[u8], images: &[u8]) -> usize
     requires { length images.now ≡ length roots.now }
     ensures { result ≡ lowest (is_missing roots.now images.now) 0 (length roots.now) }
 {
-    let mut left = roots.len();
-    while 0 < left {
-        let x = roots.len() - left;
-        if images[x] == 255 {
-            if is_rep(roots, x) {
-                return x;
-            }
+    for (x, image) in images.iter().enumerate() {
+        if *image == 255 && is_rep(roots, x) {
+            return x;
         }
-        left -= 1;
     }
     roots.len()
 }
 
 // Whether images that were given make a map: every class has one, every relation is kept.
-fn judge(
-    source: &[u8],
-    in_source: Layout,
-    target: &[u8],
-    in_target: Layout,
-    images: &[u8],
-) -> Answer
-    requires { Reads source.now in_source × Reads target.now in_target × (same_signature (signature (model_of source.now)) (signature (model_of target.now)) ≡ true) × (length images.now ≡ size (model_of source.now)) }
-    ensures { result ≡ answer_of (judged (model_of source.now) (model_of target.now) images.now) }
+fn judge(source: &File<'_>, target: &File<'_>, images: &[u8]) -> Answer
+    requires { (same_signature (signature (held source.now)) (signature (held target.now)) ≡ true) × (length images.now ≡ size (held source.now)) }
+    ensures { result ≡ answer_of (judged (held source.now) (held target.now) images.now) }
 {
-    let n = in_source.size;
-    let roots_start = in_source.roots;
-    let roots_end = roots_start + n;
-    let missing = first_missing(&source[roots_start..roots_end], images);
-    if missing < n {
-        return Answer::Refused(Refusal::ImageMissing(Element(missing as u16)));
+    let missing = first_missing(source.roots(), images);
+    if missing < source.size() {
+        return Err(Refusal::ImageMissing(Element(missing as u16)));
     }
-    let relation = unkept(source, in_source, target, in_target, images);
-    if relation < in_source.relations {
-        return Answer::Refused(Refusal::RelationNotKept(RelationId(relation as u16)));
+    let relation = unkept(source, target, images);
+    if relation < source.relations() {
+        return Err(Refusal::RelationNotKept(RelationId(relation as u16)));
     }
-    Answer::Accepted
+    Ok(Ended::Accepted)
 }
 
 // Check of two files that hold models.
-fn check_models(
-    source: &[u8],
-    in_source: Layout,
-    target: &[u8],
-    in_target: Layout,
-    pairs: &[u8],
-    out: &mut [u8],
-) -> Answer
-    requires { Reads source.now in_source × Reads target.now in_target }
-    ensures answer { result ≡ answer_of (check_models pairs.now (length out.old) (model_of source.now) (model_of target.now)) }
-    ensures output { out.new ≡ written (check_models pairs.now (length out.old) (model_of source.now) (model_of target.now)) out.old }
+fn check_models(source: &File<'_>, target: &File<'_>, pairs: &[u8], out: &mut [u8]) -> Answer
+    ensures answer { result ≡ answer_of (check_models pairs.now (length out.old) (held source.now) (held target.now)) }
+    ensures output { out.new ≡ written (check_models pairs.now (length out.old) (held source.now) (held target.now)) out.old }
 {
-    let n = in_source.size;
+    let n = source.size();
     if out.len() < n {
-        return Answer::Refused(Refusal::NoRoom);
+        return Err(Refusal::NoRoom);
     }
-    if !same_signature(source, in_source, target, in_target) {
-        return Answer::Refused(Refusal::SignaturesDiffer);
+    if !source.same_signature(target) {
+        return Err(Refusal::SignaturesDiffer);
     }
     if pairs.len() % 2 != 0 {
-        return Answer::Refused(Refusal::OddPairs);
+        return Err(Refusal::OddPairs);
     }
-    let mut images = no_images();
-    match give(
-        source,
-        in_source,
-        target,
-        in_target,
-        pairs,
-        &mut images[..n],
-    ) {
-        Pair::Bad(refusal) => Answer::Refused(refusal),
-        Pair::Good => {
-            let answer = judge(source, in_source, target, in_target, &images[..n]);
-            if let Answer::Accepted = answer {
-                put(&images[..n], out);
-            }
-            answer
-        }
-    }
+    let mut images = [255; 64];
+    give(source, target, pairs, &mut images[..n])?;
+    let ended = judge(source, target, &images[..n])?;
+    put(&images[..n], out);
+    Ok(ended)
 }
 
 // Whether a pair list gives a map from the source to the target: the map, or why not (`ModelHom::new` of model_hom.rs).
@@ -120,12 +82,6 @@ pub fn check(source: &[u8], target: &[u8], pairs: &[u8], out: &mut [u8]) -> Answ
     ensures answer { numbers result ≡ numbers (answer_of (check_files source.now target.now pairs.now (length out.old))) }
     ensures output { out.new ≡ written (check_files source.now target.now pairs.now (length out.old)) out.old }
 {
-    let two = read_two(source, target);
-    let verdict = two.verdict;
-    let in_source = two.first;
-    let in_target = two.second;
-    match verdict {
-        Verdict::Refused(refusal) => Answer::Refused(refusal),
-        Verdict::Models => check_models(source, in_source, target, in_target, pairs, out),
-    }
+    let (source, target) = read_two(source, target)?;
+    check_models(&source, &target, pairs, out)
 }

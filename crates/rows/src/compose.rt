@@ -2,102 +2,79 @@
 ghost use Rattle.std.specs.Prelude.{◌≡◌, true, ◌≤◌, length};
 ghost use Rattle.stored.specs.Model.{size};
 ghost use Rattle.stored.specs.Signature.{signature, same_signature};
-ghost use Rattle.stored.specs.Reading.{Reads, model_of};
+ghost use Rattle.stored.specs.File.{held};
 ghost use Rattle.rows.specs.Answer.{numbers, answer_of, written, refused};
 ghost use Rattle.rows.specs.Files.{with_model};
 ghost use Rattle.rows.specs.Compose.{compose_maps, compose_models, compose_files};
 
-use crate::answer::Answer;
-use crate::files::{Verdict, read_two};
+use crate::answer::{Answer, Ended};
+use crate::files::{read_model, read_two};
 use crate::maps::is_map;
 use crate::rows::write_through;
-use stored::layout::Layout;
-use stored::read::{Answer as Parsed, read};
+use stored::file::File;
 use stored::refusal::Refusal;
-use stored::signature::same_signature;
 
 // Compose of two maps between three models of one signature.
 fn compose_maps(
-    source: &[u8],
-    in_source: Layout,
-    middle: &[u8],
-    in_middle: Layout,
-    target: &[u8],
-    in_target: Layout,
+    source: &File<'_>,
+    middle: &File<'_>,
+    target: &File<'_>,
     first: &[u8],
     second: &[u8],
     out: &mut [u8],
 ) -> Answer
-    requires { Reads source.now in_source × Reads middle.now in_middle × Reads target.now in_target × (same_signature (signature (model_of source.now)) (signature (model_of middle.now)) ≡ true) × (same_signature (signature (model_of middle.now)) (signature (model_of target.now)) ≡ true) × (size (model_of source.now) ≤ length out.old) }
-    ensures answer { result ≡ answer_of (compose_maps first.now second.now (model_of source.now) (model_of middle.now) (model_of target.now)) }
-    ensures output { out.new ≡ written (compose_maps first.now second.now (model_of source.now) (model_of middle.now) (model_of target.now)) out.old }
+    requires { (same_signature (signature (held source.now)) (signature (held middle.now)) ≡ true) × (same_signature (signature (held middle.now)) (signature (held target.now)) ≡ true) × (size (held source.now) ≤ length out.old) }
+    ensures answer { result ≡ answer_of (compose_maps first.now second.now (held source.now) (held middle.now) (held target.now)) }
+    ensures output { out.new ≡ written (compose_maps first.now second.now (held source.now) (held middle.now) (held target.now)) out.old }
 {
-    if !is_map(source, in_source, middle, in_middle, first) {
-        return Answer::Refused(Refusal::NotAMap { map: 1 });
+    if !is_map(source, middle, first) {
+        return Err(Refusal::NotAMap { map: 1 });
     }
-    if !is_map(middle, in_middle, target, in_target, second) {
-        return Answer::Refused(Refusal::NotAMap { map: 2 });
+    if !is_map(middle, target, second) {
+        return Err(Refusal::NotAMap { map: 2 });
     }
     write_through(second, first, out);
-    Answer::Accepted
+    Ok(Ended::Accepted)
 }
 
 // Compose of three files that hold models.
 fn compose_models(
-    source: &[u8],
-    in_source: Layout,
-    middle: &[u8],
-    in_middle: Layout,
-    target: &[u8],
-    in_target: Layout,
+    source: &File<'_>,
+    middle: &File<'_>,
+    target: &File<'_>,
     first: &[u8],
     second: &[u8],
     out: &mut [u8],
 ) -> Answer
-    requires { Reads source.now in_source × Reads middle.now in_middle × Reads target.now in_target }
-    ensures answer { result ≡ answer_of (compose_models first.now second.now (length out.old) (model_of source.now) (model_of middle.now) (model_of target.now)) }
-    ensures output { out.new ≡ written (compose_models first.now second.now (length out.old) (model_of source.now) (model_of middle.now) (model_of target.now)) out.old }
+    ensures answer { result ≡ answer_of (compose_models first.now second.now (length out.old) (held source.now) (held middle.now) (held target.now)) }
+    ensures output { out.new ≡ written (compose_models first.now second.now (length out.old) (held source.now) (held middle.now) (held target.now)) out.old }
 {
-    if out.len() < in_source.size {
-        return Answer::Refused(Refusal::NoRoom);
+    if out.len() < source.size() {
+        return Err(Refusal::NoRoom);
     }
-    if !same_signature(source, in_source, middle, in_middle) {
-        return Answer::Refused(Refusal::SignaturesDiffer);
+    if !source.same_signature(middle) {
+        return Err(Refusal::SignaturesDiffer);
     }
-    if !same_signature(middle, in_middle, target, in_target) {
-        return Answer::Refused(Refusal::SignaturesDiffer);
+    if !middle.same_signature(target) {
+        return Err(Refusal::SignaturesDiffer);
     }
-    compose_maps(
-        source, in_source, middle, in_middle, target, in_target, first, second, out,
-    )
+    compose_maps(source, middle, target, first, second, out)
 }
 
 // Compose where the first two files hold models.
 fn compose_third(
-    source: &[u8],
-    in_source: Layout,
-    middle: &[u8],
-    in_middle: Layout,
+    source: &File<'_>,
+    middle: &File<'_>,
     target: &[u8],
     first: &[u8],
     second: &[u8],
     out: &mut [u8],
 ) -> Answer
-    requires { Reads source.now in_source × Reads middle.now in_middle }
-    ensures answer { result ≡ answer_of (with_model 3 refused (compose_models first.now second.now (length out.old) (model_of source.now) (model_of middle.now)) target.now) }
-    ensures output { out.new ≡ written (with_model 3 refused (compose_models first.now second.now (length out.old) (model_of source.now) (model_of middle.now)) target.now) out.old }
+    ensures answer { result ≡ answer_of (with_model 3 refused (compose_models first.now second.now (length out.old) (held source.now) (held middle.now)) target.now) }
+    ensures output { out.new ≡ written (with_model 3 refused (compose_models first.now second.now (length out.old) (held source.now) (held middle.now)) target.now) out.old }
 {
-    let reading = read(target);
-    let parsed = reading.answer;
-    match parsed {
-        Parsed::Fault(fault) => Answer::Refused(Refusal::Malformed { model: 3, fault }),
-        Parsed::Model => {
-            let in_target = reading.layout;
-            compose_models(
-                source, in_source, middle, in_middle, target, in_target, first, second, out,
-            )
-        }
-    }
+    let third = read_model(3, target)?;
+    compose_models(source, middle, &third, first, second, out)
 }
 
 // A map from source to middle followed by one from middle to target (`ModelHom::then` of model_hom.rs; the shared model is passed once).
@@ -112,14 +89,6 @@ pub fn compose(
     ensures answer { numbers result ≡ numbers (answer_of (compose_files source.now middle.now target.now first.now second.now (length out.old))) }
     ensures output { out.new ≡ written (compose_files source.now middle.now target.now first.now second.now (length out.old)) out.old }
 {
-    let two = read_two(source, middle);
-    let verdict = two.verdict;
-    let in_source = two.first;
-    let in_middle = two.second;
-    match verdict {
-        Verdict::Refused(refusal) => Answer::Refused(refusal),
-        Verdict::Models => compose_third(
-            source, in_source, middle, in_middle, target, first, second, out,
-        ),
-    }
+    let (source, middle) = read_two(source, middle)?;
+    compose_third(&source, &middle, target, first, second, out)
 }

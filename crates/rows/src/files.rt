@@ -1,59 +1,23 @@
-// The two files of a call.
-ghost use Rattle.std.specs.Prelude.{◌≡◌};
-ghost use Rattle.rows.specs.Files.{with_two, refused_two, both_read};
+// The files of a call.
+ghost use Rattle.std.specs.Prelude.{◌≡◌, Ok, Err, MatchResult};
+ghost use Rattle.stored.specs.File.{held};
+ghost use Rattle.rows.specs.Files.{model_read, two_read};
 
-use stored::layout::Layout;
-use stored::read::{Answer, read};
+use stored::file::File;
 use stored::refusal::Refusal;
 
-// Whether the files of a call hold models; otherwise the first that does not.
-#[derive(Clone, Copy)]
-pub enum Verdict {
-    Models,
-    Refused(Refusal),
-}
-
-// Two files read, with their layouts where both hold models.
-#[derive(Clone, Copy)]
-pub struct Two {
-    pub verdict: Verdict,
-    pub first: Layout,
-    pub second: Layout,
-}
-
-fn refused_two(refusal: Refusal) -> Two
-    ensures { result ≡ refused_two refusal }
+// Reads a file, the model of that number of a call.
+pub fn read_model(model: u8, bytes: &[u8]) -> Result<File<'_>, Refusal>
+    ensures { MatchResult result (λ file. model_read model bytes.now ≡ Ok (held file)) (λ refusal. model_read model bytes.now ≡ Err refusal) }
 {
-    Two {
-        verdict: Verdict::Refused(refusal),
-        first: Layout::none(),
-        second: Layout::none(),
-    }
+    File::read(bytes).map_err(|fault| Refusal::Malformed { model, fault })
 }
 
 // Reads two files, the models 1 and 2 of a call.
-pub fn read_two(s: &[u8], t: &[u8]) -> Two
-    ensures { result ≡ with_two refused_two both_read s.now t.now }
+pub fn read_two<'a, 'b>(s: &'a [u8], t: &'b [u8]) -> Result<(File<'a>, File<'b>), Refusal>
+    ensures { MatchResult result (λ two. two_read s.now t.now ≡ Ok (held two.0, held two.1)) (λ refusal. two_read s.now t.now ≡ Err refusal) }
 {
-    let one = read(s);
-    let one_answer = one.answer;
-    match one_answer {
-        Answer::Fault(fault) => refused_two(Refusal::Malformed { model: 1, fault }),
-        Answer::Model => {
-            let two = read(t);
-            let two_answer = two.answer;
-            match two_answer {
-                Answer::Fault(fault) => refused_two(Refusal::Malformed { model: 2, fault }),
-                Answer::Model => {
-                    let first = one.layout;
-                    let second = two.layout;
-                    Two {
-                        verdict: Verdict::Models,
-                        first,
-                        second,
-                    }
-                }
-            }
-        }
-    }
+    let first = read_model(1, s)?;
+    let second = read_model(2, t)?;
+    Ok((first, second))
 }

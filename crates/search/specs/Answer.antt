@@ -1,17 +1,20 @@
 -- "Numbers answered": 0 found, 1 none, 2 budget exhausted, each with the units used; or a refusal.
-use Rattle.std.specs.Prelude.{ℕ, List, [], ◌∷◌, ◌++◌, drop, replicate}
+use Rattle.std.specs.Prelude.{ℕ, List, [], ◌∷◌, ◌++◌, drop, replicate, Result, Ok, Err}
 use Rattle.lists.specs.Part.{over}
 use Rattle.stored.specs.declared.refusal.Refusal.{Refusal}
 use Rattle.stored.specs.Refusal as refusal
-use Rattle.search.specs.declared.answer.Answer.{Answer}
-use Rattle.search.specs.declared.answer.Answer.TheVariants as answer
+use Rattle.search.specs.declared.answer.Verdict.{Verdict}
+use Rattle.search.specs.declared.answer.Verdict.TheVariants as verdict
 use Rattle.search.specs.Machine.{Ended, found, none, exhausted}
 
+abbrev pub Answer : Type 0
+Answer = Result Verdict Refusal
+
 abbrev pub numbers : Answer → List ℕ
-numbers (answer.Found u) = 0 ∷ u ∷ []
-numbers (answer.None u) = 1 ∷ u ∷ []
-numbers (answer.Exhausted u) = 2 ∷ u ∷ []
-numbers (answer.Refused r) = refusal.numbers r
+numbers (Ok (verdict.Found u)) = 0 ∷ u ∷ []
+numbers (Ok (verdict.None u)) = 1 ∷ u ∷ []
+numbers (Ok (verdict.Exhausted u)) = 2 ∷ u ∷ []
+numbers (Err r) = refusal.numbers r
 
 -- what a call comes to
 pub data Outcome : Type 0 where
@@ -19,10 +22,10 @@ pub data Outcome : Type 0 where
   refused : Refusal → Outcome
 
 unfoldable pub answer_of : Outcome → Answer
-answer_of (ended (found u f)) = answer.Found u
-answer_of (ended (none u)) = answer.None u
-answer_of (ended (exhausted u)) = answer.Exhausted u
-answer_of (refused r) = answer.Refused r
+answer_of (ended (found u f)) = Ok (verdict.Found u)
+answer_of (ended (none u)) = Ok (verdict.None u)
+answer_of (ended (exhausted u)) = Ok (verdict.Exhausted u)
+answer_of (refused r) = Err r
 
 -- "On 0 the first n bytes hold the map and the rest are unchanged. On every other number the output is unchanged."
 unfoldable pub written : Outcome → List ℕ → List ℕ

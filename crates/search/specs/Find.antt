@@ -1,5 +1,5 @@
 -- The calls: find, find with pairs, find under a base.
-use Rattle.std.specs.Prelude.{ℕ, ◌%◌, Bool, true, false, ◌&&◌, ◌||◌, List, [], ◌∷◌, length, get_or, eqb, ltb}
+use Rattle.std.specs.Prelude.{ℕ, ◌%◌, Bool, true, false, ◌&&◌, ◌||◌, List, [], ◌∷◌, length, get_or, eqb, ltb, Result, Ok, Err}
 use Rattle.lists.specs.Every.{all}
 use Rattle.lists.specs.Numbers.{up_from}
 use Rattle.stored.specs.declared.refusal.Refusal.TheVariants.{NoRoom, NotCanonical, SignaturesDiffer, OddPairs, NotAMap}
@@ -7,8 +7,7 @@ use Rattle.stored.specs.declared.layout.Layout.{Layout}
 use Rattle.stored.specs.Model.{Model, size, relation_at}
 use Rattle.stored.specs.Canonical.{canonical}
 use Rattle.stored.specs.Signature.{signature, same_signature}
-use Rattle.rows.specs.declared.pairs.Pair.{Pair}
-use Rattle.rows.specs.declared.pairs.Pair.TheVariants as pair
+use Rattle.stored.specs.declared.refusal.Refusal.{Refusal}
 use Rattle.rows.specs.Pairs.{pair_count}
 use Rattle.rows.specs.Maps.{is_map}
 use Rattle.rows.specs.Files.{with_model}
@@ -41,9 +40,9 @@ searched a b budget clash = none 0
 searched a b budget (partners f g) = elim (alike a b) [ true ↦ run budget round_cost a b budget 0 (start_from a b f g) | false ↦ none 0 ]
 
 -- what follows the refusals that need no pair
-unfoldable pub find_paired : Model → Model → List ℕ → ℕ → Pair → Outcome
-find_paired a b pairs budget (pair.Bad r) = refused r
-find_paired a b pairs budget pair.Good = ended (searched a b budget (partners_of a b pairs))
+unfoldable pub find_paired : Model → Model → List ℕ → ℕ → Result (Unit {0}) Refusal → Outcome
+find_paired a b pairs budget (Err r) = refused r
+find_paired a b pairs budget (Ok u) = ended (searched a b budget (partners_of a b pairs))
 
 unfoldable pub find_among : Model → Model → List ℕ → ℕ → Outcome
 find_among a b pairs budget = find_paired a b pairs budget (pairs_from (pair_count pairs) a b pairs 0)

@@ -1,5 +1,5 @@
 -- The search as a machine: rules 2 to 5, every step with the units it takes. "one unit for each round, candidate looked at and closing check".
-use Rattle.std.specs.Prelude.{ℕ, zero, suc, ◌+◌, ◌-◌, ◌≡◌, Bool, true, false, ◌&&◌, List, [], ◌∷◌, map, length, set, leb, eqb}
+use Rattle.std.specs.Prelude.{ℕ, zero, suc, ◌+◌, ◌-◌, ◌≡◌, Bool, true, false, ◌&&◌, List, [], ◌∷◌, map, length, set, leb, eqb, Option, None, Some}
 use Rattle.lists.specs.Every.{all}
 use Rattle.lists.specs.First.{lowest}
 use Rattle.lists.specs.Numbers.{up_from}
@@ -7,7 +7,7 @@ use Rattle.stored.specs.Model.{Model, size, is_rep_in, is_rep, relation_at}
 use Rattle.rows.specs.Rows.{through, has_row}
 use Rattle.rounds.specs.Colours.{colour_at}
 use Rattle.rounds.specs.Round.{reps, Sides, Outcome, dead, stable, again, colour_count, round_outcome}
-use Rattle.rounds.specs.Classes.{Open, all_single, open_at, smallest_open, lowest_of}
+use Rattle.rounds.specs.Classes.{smallest_open, lowest_of}
 use Rattle.rounds.specs.Parts.{has_colour}
 
 -- an open choice: the colours, the left element, its colour, the new colour, and the right representatives not yet looked at
@@ -61,9 +61,9 @@ closes a b f = all (closes_at a b f) (up_from 0 (length a.relations))
 unfoldable pub choice_at : Model → Model → Sides → ℕ → Choice
 choice_at a b c k = record { sides = c; element = lowest_of a c.left k; old = k; new = colour_count a c.left; rest = reps b }
 
-unfoldable pub after_stable : Model → Model → Sides → List Choice → Open → State
-after_stable a b c choices all_single = close c choices
-after_stable a b c choices (open_at k) = choose (choice_at a b c k ∷ choices)
+unfoldable pub after_stable : Model → Model → Sides → List Choice → Option ℕ → State
+after_stable a b c choices None = close c choices
+after_stable a b c choices (Some k) = choose (choice_at a b c k ∷ choices)
 
 unfoldable pub after_round : Model → Model → List Choice → Outcome → State
 after_round a b choices dead = choose choices

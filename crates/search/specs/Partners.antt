@@ -1,15 +1,14 @@
 -- Fixed pairs: 14 and 15 over the whole list; then "one element is paired with two" gives 1 with 0 units.
-use Rattle.std.specs.Prelude.{ℕ, zero, suc, ◌+◌, ◌≡◌, Bool, true, false, ◌||◌, List, set}
+use Rattle.std.specs.Prelude.{ℕ, zero, suc, ◌+◌, ◌≡◌, Bool, true, false, ◌||◌, List, set, Result, Ok, Err}
 use Rattle.stored.specs.Model.{Model, size, root_of}
-use Rattle.rows.specs.declared.pairs.Pair.{Pair}
-use Rattle.rows.specs.declared.pairs.Pair.TheVariants as pair
+use Rattle.stored.specs.declared.refusal.Refusal.{Refusal}
 use Rattle.rows.specs.Pairs.{pair_count, left_at, right_at, pair_at, conflicts}
 use Rattle.rows.specs.Check.{blank}
 
 -- the first pair from a place on that is at fault, or none is
-unfoldable pub pairs_from : ℕ → Model → Model → List ℕ → ℕ → Pair
-pairs_from zero a b pairs i = pair.Good
-pairs_from (suc left) a b pairs i = elim (pair_at a b pairs i) [ pair.Bad r ↦ pair.Bad r | pair.Good ↦ pairs_from left a b pairs (i + 1) ]
+unfoldable pub pairs_from : ℕ → Model → Model → List ℕ → ℕ → Result (Unit {0}) Refusal
+pairs_from zero a b pairs i = Ok tt
+pairs_from (suc left) a b pairs i = elim (pair_at a b pairs i) [ Err r ↦ Err r | Ok u ↦ pairs_from left a b pairs (i + 1) ]
 
 -- the partner of each element on either side, 255 for none; or one element is paired with two
 pub data Partners : Type 0 where
@@ -34,4 +33,4 @@ partners_by false f g = clash
 
 -- partners that good pairs give
 abbrev pub PartnersOf : Model → Model → List ℕ → List ℕ → Type 0
-PartnersOf a b f g = (pairs : List ℕ) × (pairs_from (pair_count pairs) a b pairs 0 ≡ pair.Good) × (partners_of a b pairs ≡ partners f g)
+PartnersOf a b f g = (pairs : List ℕ) × (pairs_from (pair_count pairs) a b pairs 0 ≡ Ok tt) × (partners_of a b pairs ≡ partners f g)

@@ -3,40 +3,32 @@ ghost use Rattle.std.specs.Prelude.{◌≡◌, true, ◌≤◌};
 ghost use Rattle.lists.specs.Every.{all};
 ghost use Rattle.lists.specs.Numbers.{up_from};
 ghost use Rattle.stored.specs.Limits.{max_relations};
-ghost use Rattle.stored.specs.Signature.{signature, same_signature};
-ghost use Rattle.stored.specs.Reading.{Reads, model_of};
+ghost use Rattle.stored.specs.File.{held};
 ghost use Rattle.search.specs.Find.{same_count_in};
 ghost use Rattle.search.specs.Find as find;
 
 use rounds::classes::class_count;
 use stored::layout::Layout;
+use stored::matched::Matched;
 
 // Whether each relation of the left has as many rows on the right.
-fn same_row_counts(in_left: Layout, in_right: Layout) -> bool
-    requires { in_left.relations ≤ max_relations }
-    ensures { result ≡ all (same_count_in in_left in_right) (up_from 0 in_left.relations) }
+fn same_row_counts(in_left: &Layout, in_right: &Layout) -> bool
+    requires { in_left.now.relations ≤ max_relations }
+    ensures { result ≡ all (same_count_in in_left.now in_right.now) (up_from 0 in_left.now.relations) }
 {
-    let mut k: usize = 0;
-    while k < in_left.relations {
-        let count = in_left.count[k];
-        let other_count = in_right.count[k];
-        if count != other_count {
-            return false;
-        }
-        k += 1;
-    }
-    true
+    let relations = in_left.relations;
+    in_left.count[..relations] == in_right.count[..relations]
 }
 
 // Whether two models of one signature are alike.
-pub(crate) fn alike(left: &[u8], in_left: Layout, right: &[u8], in_right: Layout) -> bool
-    requires { Reads left.now in_left × Reads right.now in_right × (same_signature (signature (model_of left.now)) (signature (model_of right.now)) ≡ true) }
-    ensures { result ≡ find.alike (model_of left.now) (model_of right.now) }
+#[tactic(auto, using(stored::proofs::Laws::Reading::few_relations))]
+pub(crate) fn alike(both: &Matched<'_, '_>) -> bool
+    ensures { result ≡ find.alike (held both.now.left) (held both.now.right) }
 {
-    let classes = class_count(left, in_left);
-    let other_classes = class_count(right, in_right);
+    let classes = class_count(&both.left);
+    let other_classes = class_count(&both.right);
     if classes != other_classes {
         return false;
     }
-    same_row_counts(in_left, in_right)
+    same_row_counts(&both.left.layout, &both.right.layout)
 }

@@ -10,9 +10,5 @@ pub(crate) fn clear(work: &mut [u16])
     requires { work_room ≤ length work.old }
     ensures { work.new ≡ cleared work_room work.old }
 {
-    let mut i: usize = 0;
-    while i < ROOM {
-        work[i] = 0;
-        i += 1;
-    }
+    work[..ROOM].fill(0);
 }

@@ -1,73 +1,83 @@
-// What the model in a file that was read holds: each part is found by the layout and handed on.
-ghost use Rattle.std.specs.Prelude.{◌≡◌, ◌<◌};
-ghost use Rattle.stored.specs.Reading.{Reads};
+// What the model in a file holds: each part is said on a line of its own.
+ghost use Rattle.std.specs.Prelude.{◌≡◌, ◌<◌, length};
+ghost use Rattle.stored.specs.File.{held};
 ghost use Rattle.show.specs.Representatives.{representatives_from};
 
-use crate::say;
-use stored::canonical::is_canonical;
-use stored::layout::Layout;
+use std::{fmt, io};
+use stored::file::File;
+
+// Bytes as numbers, a space before each.
+#[derive(Drop)]
+struct Spaced<'a>(&'a [u8]);
+
+impl fmt::Display for Spaced<'_> {
+    fn fmt<W: fmt::Write>(&self, f: &mut fmt::Formatter<W>) -> fmt::Result {
+        for byte in self.0 {
+            write!(f, " {byte}")?;
+        }
+        Ok(())
+    }
+}
 
 // How many elements are their own representative.
+#[tactic(auto, using(crate::proofs::Representatives::own, crate::proofs::Representatives::alias, crate::proofs::Representatives::end))]
 fn representatives(roots: &[u8]) -> usize
     ensures { result ≡ representatives_from 0 roots.now }
 {
     let mut n: usize = 0;
-    let mut x: usize = 0;
-    while x < roots.len() {
-        let root = roots[x] as usize;
-        if root == x {
+    for (x, root) in roots.iter().enumerate() {
+        if usize::from(*root) == x {
             n += 1;
         }
-        x += 1;
     }
     n
 }
 
-// The types.
-fn show_types(s: &[u8], l: Layout)
-    requires { Reads s.now l }
-{
-    let end = 3 + l.types;
-    say::types(&s[3..end]);
+// How many types there are, and how many elements each has.
+fn show_types(out: &impl Print, file: &File<'_>) -> io::Result<()> {
+    let types = file.types();
+    println!(out; "types {}:{}", types.len(), Spaced(types))
 }
 
-// The elements.
-fn show_elements(s: &[u8], l: Layout)
-    requires { Reads s.now l }
-{
-    let start = l.roots;
-    let end = start + l.size;
-    say::elements(l.size, representatives(&s[start..end]));
+// How many elements there are, and how many of them are their own representative.
+fn show_elements(out: &impl Print, file: &File<'_>) -> io::Result<()> {
+    let roots = file.roots();
+    println!(out;
+        "elements {}\nrepresentatives {}",
+        roots.len(),
+        representatives(roots)
+    )
 }
 
-// One relation. Its columns stand just before the two bytes of its row count, and those just before its rows.
-fn show_relation(s: &[u8], l: Layout, k: usize)
-    requires { Reads s.now l × (k < l.relations) }
+// A relation's number, the types of its columns, and how many rows it has.
+fn show_relation(out: &impl Print, file: &File<'_>, k: usize) -> io::Result<()>
+    requires { k < length (held file.now).relations }
 {
-    let end = l.rows[k] - 2;
-    let start = end - l.arity[k];
-    say::relation(k, &s[start..end], l.count[k]);
+    println!(out;
+        "relation {k}: columns{}, rows {}",
+        Spaced(file.columns(k)),
+        file.rows(k).count
+    )
 }
 
-// Each relation.
-fn show_relations(s: &[u8], l: Layout)
-    requires { Reads s.now l }
-{
-    let relations = l.relations;
-    let mut k: usize = 0;
-    while k < relations {
-        show_relation(s, l, k);
-        k += 1;
+// How many relations there are, and each of them.
+fn show_relations(out: &impl Print, file: &File<'_>) -> io::Result<()> {
+    println!(out; "relations {}", file.relations())?;
+    for k in 0..file.relations() {
+        show_relation(out, file, k)?;
     }
+    Ok(())
 }
 
-// The whole model.
-pub(crate) fn show_model(s: &[u8], l: Layout)
-    requires { Reads s.now l }
-{
-    say::model(is_canonical(s, l));
-    show_types(s, l);
-    show_elements(s, l);
-    say::relations(l.relations);
-    show_relations(s, l);
+// The whole model, and whether it is canonical.
+pub(crate) fn show_model(out: &impl Print, file: &File<'_>) -> io::Result<()> {
+    let form = if file.is_canonical() {
+        "canonical"
+    } else {
+        "not canonical"
+    };
+    println!(out; "model, {form}")?;
+    show_types(out, file)?;
+    show_elements(out, file)?;
+    show_relations(out, file)
 }

@@ -11,3 +11,5 @@ pub mod Signature
 pub mod Lookup
 pub mod Representatives
 pub mod Cells
+pub mod File
+pub mod Chains

@@ -11,3 +11,4 @@ pub mod Signature
 pub mod Refusal
 pub mod Layout
 pub mod Reading
+pub mod File

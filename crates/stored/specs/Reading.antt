@@ -1,23 +1,18 @@
 -- What reading a file answers.
-use Rattle.std.specs.Prelude.{◌≡◌, ℕ, ◌+◌, List, [], length}
+use Rattle.std.specs.Prelude.{◌≡◌, ℕ, ◌+◌, List, [], length, Result, Ok, Err}
 use Rattle.lists.specs.Numbers.{sum}
 use Rattle.stored.specs.declared.refusal.Fault.{Fault}
 use Rattle.stored.specs.declared.layout.Layout.{Layout}
 use Rattle.stored.specs.declared.read.Item.TheVariants as item
-use Rattle.stored.specs.declared.read.Answer.TheVariants as answer
-use Rattle.stored.specs.declared.read.Reading.{Reading}
 use Rattle.stored.specs.Field.{fault_at}
 use Rattle.stored.specs.Model.{Model}
 use Rattle.stored.specs.Parse.{Parsed, model, fault, item_at, parse}
-use Rattle.stored.specs.Layout.{table, firsts_from, layout_of, no_layout}
+use Rattle.stored.specs.Layout.{table, firsts_from, layout_of}
 
-unfoldable pub refused_with : Fault → Reading
-refused_with f = record { answer = answer.Fault f; layout = no_layout }
-
--- a model with its layout, or the fault
-unfoldable pub reading_of : Parsed → Reading
-reading_of (model m) = record { answer = answer.Model; layout = layout_of m }
-reading_of (fault f) = refused_with f
+-- a model's layout, or the fault
+unfoldable pub reading_of : Parsed → Result Layout Fault
+reading_of (model m) = Ok (layout_of m)
+reading_of (fault f) = Err f
 
 -- the model that a file holds; a model of nothing where it holds none
 unfoldable pub model_in : Parsed → Model
@@ -46,9 +41,8 @@ pub record Begun (sizes : List ℕ) (at : ℕ) (l : Layout) : Type 0 where
   pub past : at ≡ 6 + length sizes + sum sizes
 
 -- the answer where a layout is complete and End must follow
-unfoldable pub last_reading : List ℕ → ℕ → List ℕ → ℕ → Layout → Reading
+unfoldable pub last_reading : List ℕ → ℕ → List ℕ → ℕ → Layout → Result Layout Fault
 last_reading sizes room s at l = elim (item_at sizes room s at) [
-  | item.End ↦ record { answer = answer.Model; layout = l }
-  | item.Relation start len arity count past ↦ refused_with (fault_at at)
-  | item.Fault f ↦ refused_with f
+  | Ok x ↦ elim x [ item.End ↦ Ok l | item.Relation start len arity count past ↦ Err (fault_at at) ]
+  | Err f ↦ Err f
 ]

@@ -1,11 +1,10 @@
 -- "Relation, tag 03: arity a; a type numbers; two-byte row count c; c rows of a element numbers."
-use Rattle.std.specs.Prelude.{◌≡◌, ℕ, ◌+◌, ◌*◌, Bool, true, false, ◌&&◌, ◌||◌, List, length, get_or, drop, ltb, leb, eqb}
+use Rattle.std.specs.Prelude.{◌≡◌, ℕ, ◌+◌, ◌*◌, Bool, true, false, ◌&&◌, ◌||◌, List, length, get_or, drop, ltb, leb, eqb, Option, Some, None}
 use Rattle.lists.specs.Every.{all, pairwise}
 use Rattle.lists.specs.Numbers.{sum}
 use Rattle.lists.specs.Order.{ascending}
 use Rattle.lists.specs.Part.{part, rows_of}
-use Rattle.stored.specs.declared.relation.Head.{Head}
-use Rattle.stored.specs.declared.relation.Head.TheVariants as head
+use Rattle.stored.specs.declared.relation.Shape.{Shape}
 use Rattle.stored.specs.Limits.{max_arity}
 use Rattle.stored.specs.Field.{word_at}
 use Rattle.stored.specs.Types.{type_in}
@@ -61,14 +60,14 @@ unfoldable pub relation_holds : List ℕ → ℕ → List ℕ → Bool
 relation_holds sizes room v = shape_holds room v && rows_hold sizes v
 
 -- a relation's head: its arity and row count, where it keeps the rules
-unfoldable pub head_if : Bool → List ℕ → Head
-head_if true v = head.Rows (arity_of v) (count_of v)
-head_if false v = head.Broken
+unfoldable pub head_if : Bool → List ℕ → Option Shape
+head_if true v = Some (record { arity = arity_of v; count = count_of v })
+head_if false v = None
 
-unfoldable pub shape_of : ℕ → List ℕ → Head
+unfoldable pub shape_of : ℕ → List ℕ → Option Shape
 shape_of room v = head_if (shape_holds room v) v
 
-unfoldable pub head_of : List ℕ → ℕ → List ℕ → Head
+unfoldable pub head_of : List ℕ → ℕ → List ℕ → Option Shape
 head_of sizes room v = head_if (relation_holds sizes room v) v
 
 -- a value's arity and row count, and its length by them

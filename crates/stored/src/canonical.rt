@@ -1,68 +1,52 @@
 // Whether a model is canonical: no row holds an alias.
-ghost use Rattle.std.specs.Prelude.{◌≡◌, ◌≤◌, ◌*◌, length};
+ghost use Rattle.std.specs.Prelude.{◌≡◌};
 ghost use Rattle.lists.specs.Every.{all};
-ghost use Rattle.lists.specs.Part.{rows_of};
 ghost use Rattle.stored.specs.Model.{is_rep_in};
 ghost use Rattle.stored.specs.Canonical.{canonical};
-ghost use Rattle.stored.specs.Reading.{Reads, model_of};
+ghost use Rattle.stored.specs.File.{held, listed};
 
-use crate::layout::Layout;
+use crate::file::File;
+use crate::rows::Rows;
+
+// Whether a number is that of an element which is its own representative.
+#[tactic(auto, unfolding(crate::specs::Model::is_rep_in))]
+pub fn is_rep(roots: &[u8], x: usize) -> bool
+    ensures { result ≡ is_rep_in roots.now x }
+{
+    x < roots.len() && usize::from(roots[x]) == x
+}
 
 // Whether each entry of a row is its own representative.
 fn row_canonical(roots: &[u8], row: &[u8]) -> bool
     ensures { result ≡ all (is_rep_in roots.now) row.now }
 {
-    let mut j: usize = 0;
-    while j < row.len() {
-        let x = row[j] as usize;
-        if roots.len() <= x {
-            return false;
-        }
-        let root = roots[x] as usize;
-        if root != x {
-            return false;
-        }
-        j += 1;
-    }
-    true
+    row.iter().all(|x| is_rep(roots, usize::from(*x)))
 }
 
 // Whether each entry of some rows is its own representative.
-fn rows_canonical(roots: &[u8], rows: &[u8], arity: usize, count: usize) -> bool
-    requires { count * arity ≤ length rows.now }
-    ensures { result ≡ all (all (is_rep_in roots.now)) (rows_of arity count rows.now) }
+fn rows_canonical(roots: &[u8], rows: &Rows<'_>) -> bool
+    ensures { result ≡ all (all (is_rep_in roots.now)) (listed rows.now) }
 {
-    let mut left = count;
-    let mut at: usize = 0;
-    while 0 < left {
-        let end = at + arity;
-        if !row_canonical(roots, &rows[at..end]) {
+    for i in 0..rows.count {
+        if !row_canonical(roots, rows.row(i)) {
             return false;
         }
-        at = end;
-        left -= 1;
     }
     true
 }
 
-// Whether the model that a file holds is canonical (`is_canonical` of model.rs; see docs/DIFFERENCES.md).
-pub fn is_canonical(s: &[u8], l: Layout) -> bool
-    requires { Reads s.now l }
-    ensures { result ≡ canonical (model_of s.now) }
-{
-    let relations = l.relations;
-    let roots_start = l.roots;
-    let roots_end = roots_start + l.size;
-    let roots = &s[roots_start..roots_end];
-    let mut k: usize = 0;
-    while k < relations {
-        let start = l.rows[k];
-        let arity = l.arity[k];
-        let count = l.count[k];
-        if !rows_canonical(roots, &s[start..], arity, count) {
-            return false;
+impl<'a> File<'a> {
+    // Whether the model that a file holds is canonical (`is_canonical` of model.rs; see docs/DIFFERENCES.md).
+    pub fn is_canonical(&self) -> bool
+        ensures { result ≡ canonical (held self.now) }
+    {
+        let roots = self.roots();
+        for k in 0..self.relations() {
+            let rows = self.rows(k);
+            if !rows_canonical(roots, &rows) {
+                return false;
+            }
         }
-        k += 1;
+        true
     }
-    true
 }

@@ -5,28 +5,25 @@ ghost use Rattle.stored.specs.Field.{field_at};
 use crate::refusal::Fault;
 
 // A place in a file.
-#[derive(Clone, Copy)]
+#[derive(Clone, Copy, PartialEq, Eq)]
 pub struct Cursor {
     pub at: usize,
 }
 
-// What stands at a cursor: a field, its value `len` bytes from `start`, with the cursor moved past it; or the fault.
+// A field, its value `len` bytes from `start`, and the cursor moved past it.
 #[derive(Clone, Copy)]
-pub enum Next {
-    Field {
-        tag: u8,
-        start: usize,
-        len: usize,
-        next: Cursor,
-    },
-    Fault(Fault),
+pub struct Field {
+    pub tag: u8,
+    pub start: usize,
+    pub len: usize,
+    pub next: Cursor,
 }
 
 // A two-byte number, high byte first.
 pub(crate) fn word(hi: u8, lo: u8) -> usize
     ensures { result ≡ 256 * hi + lo }
 {
-    256 * (hi as usize) + (lo as usize)
+    usize::from(u16::from_be_bytes([hi, lo]))
 }
 
 impl Cursor {
@@ -37,27 +34,28 @@ impl Cursor {
         Cursor { at: 0 }
     }
 
-    // The field at the cursor, and the cursor past it.
-    pub fn field(self, s: &[u8]) -> Next
+    // The field at the cursor, or the fault of what stands there.
+    #[tactic(auto, unfolding(crate::specs::Field::field_at))]
+    pub fn field(self, s: &[u8]) -> Result<Field, Fault>
         ensures { result ≡ field_at s.now self.at }
     {
         let at = self.at;
         if s.len() < 3 {
-            return Next::Fault(Fault { offset: at });
+            return Err(Fault { offset: at });
         }
         if s.len() - 3 < at {
-            return Next::Fault(Fault { offset: at });
+            return Err(Fault { offset: at });
         }
         let len = word(s[at + 1], s[at + 2]);
         let start = at + 3;
         if s.len() - start < len {
-            return Next::Fault(Fault { offset: at });
+            return Err(Fault { offset: at });
         }
-        Next::Field {
+        Ok(Field {
             tag: s[at],
             start,
             len,
             next: Cursor { at: start + len },
-        }
+        })
     }
 }

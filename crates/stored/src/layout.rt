@@ -19,6 +19,7 @@ pub struct Layout {
 
 impl Layout {
     // Of no model.
+    #[tactic(auto, unfolding(crate::specs::Layout::no_layout, crate::specs::Layout::table, lists::specs::Part::over))]
     pub fn none() -> Self
         ensures { result ≡ no_layout }
     {
@@ -35,6 +36,7 @@ impl Layout {
     }
 
     // With one relation more.
+    #[tactic(auto, unfolding(crate::specs::Layout::with_relation))]
     pub(crate) fn with_relation(self, arity: usize, count: usize, rows: usize) -> Self
         requires { self.relations < max_relations }
         ensures { result ≡ with_relation self arity count rows }

@@ -8,12 +8,15 @@
 
 pub mod canonical;
 pub mod field;
+pub mod file;
 pub mod layout;
 pub mod lookup;
+pub mod matched;
 pub mod model;
 pub mod read;
 pub mod refusal;
 pub mod relation;
 pub mod roots;
+pub mod rows;
 pub mod signature;
 pub mod types;

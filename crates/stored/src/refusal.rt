@@ -2,14 +2,14 @@
 use crate::model::{Element, RelationId};
 
 // The field at fault: where it starts in its file.
-#[derive(Clone, Copy)]
+#[derive(Clone, Copy, PartialEq, Eq)]
 pub struct Fault {
     pub offset: usize,
 }
 
 // A refusal by any call. `specs/Refusal.antt` gives the number and the carried values of each. Models, maps and sides are counted from 1,
 // places from 0.
-#[derive(Clone, Copy)]
+#[derive(Clone, Copy, PartialEq, Eq)]
 pub enum Refusal {
     Malformed { model: u8, fault: Fault },
     NoRoom,

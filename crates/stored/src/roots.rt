@@ -8,21 +8,18 @@ use crate::model::Element;
 use crate::types::{total, type_in};
 
 // Whether the representative of one element keeps the rules.
+#[tactic(auto, unfolding(crate::specs::Roots::root_holds))]
 fn root_holds(types: &[u8], roots: &[u8], x: usize) -> bool
     requires { (length types.now ≤ max_types) × (length roots.now ≤ max_elements) × (x < length roots.now) }
     ensures { result ≡ root_holds types.now roots.now x }
 {
-    let root = roots[x] as usize;
+    let root = usize::from(roots[x]);
     if roots.len() <= root {
         return false;
     }
-    let its_type = type_in(types, Element(root as u16)).0;
-    let own_type = type_in(types, Element(x as u16)).0;
-    if its_type != own_type {
-        return false;
-    }
-    let again = roots[root] as usize;
-    again == root
+    let its_type = type_in(types, Element(root as u16));
+    let own_type = type_in(types, Element(x as u16));
+    its_type == own_type && usize::from(roots[root]) == root
 }
 
 // Whether the value keeps the rules.
@@ -34,12 +31,5 @@ pub(crate) fn roots_hold(types: &[u8], roots: &[u8]) -> bool
     if roots.len() != n {
         return false;
     }
-    let mut x: usize = 0;
-    while x < roots.len() {
-        if !root_holds(types, roots, x) {
-            return false;
-        }
-        x += 1;
-    }
-    true
+    (0..roots.len()).all(|x| root_holds(types, roots, x))
 }

@@ -12,16 +12,11 @@ pub(crate) fn total(types: &[u8]) -> usize
     requires { length types.now ≤ max_types }
     ensures { result ≡ sum types.now }
 {
-    let mut n: usize = 0;
-    let mut t: usize = 0;
-    while t < types.len() {
-        n += types[t] as usize;
-        t += 1;
-    }
-    n
+    types.iter().map(|n| usize::from(*n)).sum()
 }
 
 // Whether the value keeps the rules.
+#[tactic(auto, unfolding(crate::specs::Types::types_hold))]
 pub(crate) fn types_hold(types: &[u8]) -> bool
     ensures { result ≡ types_hold types.now }
 {
@@ -33,21 +28,20 @@ pub(crate) fn types_hold(types: &[u8]) -> bool
 }
 
 // The type of an element; the number of types for what is no element.
+#[tactic(auto, using(crate::proofs::Laws::Types::type_cases))]
 pub fn type_in(types: &[u8], e: Element) -> TypeId
     requires { length types.now ≤ max_types }
     ensures { result.0 ≡ type_in types.now e.0 }
 {
-    let mut left = e.0 as usize;
-    let mut t: usize = 0;
-    while t < types.len() {
-        let n = types[t] as usize;
+    let mut left = usize::from(e.0);
+    for (t, n) in types.iter().enumerate() {
+        let n = usize::from(*n);
         if left < n {
             return TypeId(t as u16);
         }
         left -= n;
-        t += 1;
     }
-    TypeId(t as u16)
+    TypeId(types.len() as u16)
 }
 
 // The first element of each type.
@@ -57,11 +51,9 @@ pub(crate) fn first_elements(types: &[u8]) -> [usize; 16]
 {
     let mut first = [0usize; 16];
     let mut x: usize = 0;
-    let mut t: usize = 0;
-    while t < types.len() {
+    for (t, n) in types.iter().enumerate() {
         first[t] = x;
-        x += types[t] as usize;
-        t += 1;
+        x += usize::from(*n);
     }
     first
 }

@@ -1,37 +1,61 @@
 // The lines of the input, each a call.
-use crate::two::Call;
-use crate::{answer, apply, compose, find, identity, pairs, two, under, words};
+use crate::reply::Reply;
+use crate::{finds, maps};
+use rows::check::check;
+use rows::inverse::inverse;
+use std::io::Result;
 
-// A line, by the name of its call.
-fn replay(line: &[u8]) {
-    let name = words::word(line, 0);
-    if words::same(name, b"identity") {
-        identity::replay(line);
-    } else if words::same(name, b"check") {
-        two::replay(Call::Check, line);
-    } else if words::same(name, b"apply") {
-        apply::replay(line);
-    } else if words::same(name, b"compose") {
-        compose::replay(line);
-    } else if words::same(name, b"inverse") {
-        two::replay(Call::Inverse, line);
-    } else if words::same(name, b"find") {
-        find::replay(line);
-    } else if words::same(name, b"pairs") {
-        pairs::replay(line);
-    } else if words::same(name, b"under") {
-        under::replay(line);
-    } else {
-        answer::say_broken_line();
+// What is answered on a line; none where it is no call.
+fn replay(line: &[u8]) -> Option<Reply> {
+    let is_space = |c: &u8| *c == b' ';
+    // A call has no more words than these places.
+    let mut places = [&line[..0]; 9];
+    for (place, word) in places.iter_mut().zip(line.split(is_space)) {
+        *place = word;
+    }
+    match places.get(..line.split(is_space).count())? {
+        [b"identity", model, length] => maps::replay_identity(model, length),
+        [b"check", source, target, pairs, length] => {
+            maps::replay_two(check, source, target, pairs, length)
+        }
+        [b"apply", source, target, map, element] => {
+            maps::replay_apply(source, target, map, element)
+        }
+        [b"compose", source, middle, target, first, second, length] => {
+            maps::replay_compose(source, middle, target, first, second, length)
+        }
+        [b"inverse", source, target, map, length] => {
+            maps::replay_two(inverse, source, target, map, length)
+        }
+        [b"find", left, right, budget, length, work] => {
+            finds::replay_find(left, right, budget, length, work)
+        }
+        [b"pairs", left, right, pairs, budget, length, work] => {
+            finds::replay_pairs(left, right, pairs, budget, length, work)
+        }
+        [
+            b"under",
+            base,
+            left,
+            right,
+            to_left,
+            to_right,
+            budget,
+            length,
+            work,
+        ] => { finds::replay_under(base, left, right, to_left, to_right, budget, length, work) }
+        _ => None,
     }
 }
 
 // All lines.
-pub(crate) fn replay_all(text: &[u8]) {
-    let mut at: usize = 0;
-    while at < text.len() {
-        let end = words::end(text, at, b'\n');
-        replay(&text[at..end]);
-        at = end + 1;
+pub(crate) fn replay_all(rt: &impl Print, text: &[u8]) -> Result<()> {
+    for line in text.split_inclusive(|c| *c == b'\n') {
+        let line = line.strip_suffix(b"\n").unwrap_or(line);
+        match replay(line) {
+            Some(reply) => println!(rt; "{reply}")?,
+            None => println!(rt; "?")?,
+        }
     }
+    Ok(())
 }

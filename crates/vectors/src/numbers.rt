@@ -5,8 +5,10 @@ ghost use Rattle.rows.specs.Answer.{numbers as answerNumbers, applied_numbers};
 ghost use Rattle.search.specs.Answer.{numbers as searchedNumbers};
 ghost use Rattle.vectors.specs.Numbers.{listed};
 
-use rows::answer::{Answer, Applied};
-use search::answer::Answer as Searched;
+use rows::answer::{Answer, Ended};
+use search::answer::{Answer as Searched, Verdict};
+use std::fmt;
+use stored::model::Element;
 use stored::refusal::Refusal;
 
 // The values that an answer carries.
@@ -54,54 +56,73 @@ fn with_two(number: usize, value: usize, other: usize) -> Numbers
     }
 }
 
-// Of a refusal.
-fn of_refusal(refusal: Refusal) -> Numbers
-    ensures { listed result ≡ refusalNumbers refusal }
-{
-    match refusal {
-        Refusal::Malformed { model, fault } => with_two(10, model as usize, fault.offset),
-        Refusal::NoRoom => alone(11),
-        Refusal::NotCanonical { model } => with_one(12, model as usize),
-        Refusal::SignaturesDiffer => alone(13),
-        Refusal::UnknownElement { place, side } => with_two(14, place, side as usize),
-        Refusal::TypesDiffer { place } => with_one(15, place),
-        Refusal::ImageMissing(element) => with_one(16, element.0 as usize),
-        Refusal::ConflictingImages(element) => with_one(17, element.0 as usize),
-        Refusal::RelationNotKept(relation) => with_one(18, relation.0 as usize),
-        Refusal::NotAMap { map } => with_one(19, map as usize),
-        Refusal::OddPairs => alone(20),
+// With a space before each value.
+impl fmt::Display for Numbers {
+    fn fmt<W: fmt::Write>(&self, f: &mut fmt::Formatter<W>) -> fmt::Result {
+        let number = self.number;
+        match self.carried {
+            Carried::Nothing => write!(f, "{number}"),
+            Carried::One(value) => write!(f, "{number} {value}"),
+            Carried::Two(value, other) => write!(f, "{number} {value} {other}"),
+        }
+    }
+}
+
+impl From<Refusal> for Numbers {
+    ghost from_gives = { λ refusal result. listed result ≡ refusalNumbers refusal };
+
+    fn from(refusal: Refusal) -> Numbers {
+        match refusal {
+            Refusal::Malformed { model, fault } => with_two(10, model as usize, fault.offset),
+            Refusal::NoRoom => alone(11),
+            Refusal::NotCanonical { model } => with_one(12, model as usize),
+            Refusal::SignaturesDiffer => alone(13),
+            Refusal::UnknownElement { place, side } => with_two(14, place, side as usize),
+            Refusal::TypesDiffer { place } => with_one(15, place),
+            Refusal::ImageMissing(element) => with_one(16, element.0 as usize),
+            Refusal::ConflictingImages(element) => with_one(17, element.0 as usize),
+            Refusal::RelationNotKept(relation) => with_one(18, relation.0 as usize),
+            Refusal::NotAMap { map } => with_one(19, map as usize),
+            Refusal::OddPairs => alone(20),
+        }
     }
 }
 
 // Of a call that writes a map.
-pub(crate) fn of_answer(answer: Answer) -> Numbers
-    ensures { listed result ≡ answerNumbers answer }
-{
-    match answer {
-        Answer::Accepted => alone(0),
-        Answer::None => alone(1),
-        Answer::Refused(refusal) => of_refusal(refusal),
+impl From<Answer> for Numbers {
+    ghost from_gives = { λ answer result. listed result ≡ answerNumbers answer };
+
+    fn from(answer: Answer) -> Numbers {
+        match answer {
+            Ok(Ended::Accepted) => alone(0),
+            Ok(Ended::None) => alone(1),
+            Err(refusal) => Numbers::from(refusal),
+        }
     }
 }
 
 // Of a call of the search.
-pub(crate) fn of_searched(answer: Searched) -> Numbers
-    ensures { listed result ≡ searchedNumbers answer }
-{
-    match answer {
-        Searched::Found(units) => with_one(0, units as usize),
-        Searched::None(units) => with_one(1, units as usize),
-        Searched::Exhausted(units) => with_one(2, units as usize),
-        Searched::Refused(refusal) => of_refusal(refusal),
+impl From<Searched> for Numbers {
+    ghost from_gives = { λ answer result. listed result ≡ searchedNumbers answer };
+
+    fn from(answer: Searched) -> Numbers {
+        match answer {
+            Ok(Verdict::Found(units)) => with_one(0, units as usize),
+            Ok(Verdict::None(units)) => with_one(1, units as usize),
+            Ok(Verdict::Exhausted(units)) => with_one(2, units as usize),
+            Err(refusal) => Numbers::from(refusal),
+        }
     }
 }
 
 // Of apply.
-pub(crate) fn of_applied(answer: Applied) -> Numbers
-    ensures { listed result ≡ applied_numbers answer }
-{
-    match answer {
-        Applied::Image(element) => with_one(0, element.0 as usize),
-        Applied::Refused(refusal) => of_refusal(refusal),
+impl From<Result<Element, Refusal>> for Numbers {
+    ghost from_gives = { λ answer result. listed result ≡ applied_numbers answer };
+
+    fn from(answer: Result<Element, Refusal>) -> Numbers {
+        match answer {
+            Ok(element) => with_one(0, element.0 as usize),
+            Err(refusal) => Numbers::from(refusal),
+        }
     }
 }

@@ -1,33 +1,30 @@
 -- What find found: the first entries of its output, as many as the left model has elements, are its map. And the line of a call, and of a job. Assumes nothing.
-use Prim.Native.Nat.{ℕ, ◌+◌, ◌-◌, ◌≤◌}
+use Prim.Native.Nat.{ℕ, ◌≤◌}
 use mathlib.Core.Path.{◌≡◌, refl, sym, ◌∙◌, ap}
 use mathlib.Core.List.{List, [], ◌∷◌}
 use native.Mathlib.Omega.{arith}
 use lib.ListN.{length, get_or, take}
-use Rattle.lists.specs.Part.{part, over}
+use Rattle.std.proofs.Common.{Some, None, Ok, Err}
+use Rattle.lists.specs.Part.{over}
 use Rattle.lists.proofs.Laws.Over.{over_front}
 use Rattle.stored.specs.declared.refusal.Fault.{Fault}
-use Rattle.stored.specs.declared.read.Reading.{Reading}
-use Rattle.stored.specs.declared.read.Answer.TheVariants as parsed
+use Rattle.stored.specs.declared.layout.Layout.{Layout}
 use Rattle.stored.specs.declared.refusal.Refusal.{Refusal}
 use Rattle.stored.specs.Refusal as refusal
 use Rattle.stored.specs.Model.{Model, size}
 use Rattle.stored.specs.Parse.{model, fault, parse}
 use Rattle.stored.specs.Reading.{reading_of, model_of}
 use Rattle.stored.proofs.Laws.Reading.{reading_reads, reading_faults, reads_formed, size_is}
-use Rattle.search.specs.declared.answer.Answer.{Answer}
-use Rattle.search.specs.declared.answer.Answer.TheVariants as answer
+use Rattle.std.specs.Prelude.{Ok, Err}
+use Rattle.search.specs.declared.answer.Verdict.TheVariants as verdict
 use Rattle.search.specs.Machine.{found, none, exhausted}
-use Rattle.search.specs.Answer.{numbers, Outcome, ended, refused, answer_of, written, work_room}
+use Rattle.search.specs.Answer.{Answer, numbers, Outcome, ended, refused, answer_of, written, work_room}
 use Rattle.search.specs.Find.{find_files}
 use Rattle.search.proofs.Laws.Answer.{refusal_high, written_found, numbers_found, found_by, none_by, exhausted_by}
 use Rattle.search.proofs.Theorems.Decides.{files_found}
-use Rattle.io.specs.Counts.{IsPrefixLen}
-use Rattle.io.proofs.Counting.{prefix_len_of_le}
-use Rattle.job.specs.declared.reader.Value.{Value}
-use Rattle.job.specs.declared.job.Reading.TheVariants.{Job, Broken}
+use Rattle.job.specs.declared.job.Job.{Job}
 use Rattle.job.specs.Job.{job_of}
-use Rattle.job.specs.Line.{line_with, map_found, map_room, found_line, answer_to, line_of}
+use Rattle.job.specs.Line.{line_with, map_found, map_room, found_line, answer_to, line_of, value_in}
 use Rattle.job.specs.Writing.{elements_in, entries_of}
 
 -- the map of an outcome
@@ -61,19 +58,19 @@ elements_faulty s f e = rw (e, elements_in)
 
 -- the entries of an answer's map
 module _ (left : List ℕ) where
-  pub entries_found : (u : ℕ) → entries_of (answer.Found u) left ≡ elements_in left
+  pub entries_found : (u : ℕ) → entries_of (Ok (verdict.Found u)) left ≡ elements_in left
   unfolding entries_of
   entries_found u = refl
 
-  pub entries_none : (u : ℕ) → entries_of (answer.None u) left ≡ 0
+  pub entries_none : (u : ℕ) → entries_of (Ok (verdict.None u)) left ≡ 0
   unfolding entries_of
   entries_none u = refl
 
-  pub entries_exhausted : (u : ℕ) → entries_of (answer.Exhausted u) left ≡ 0
+  pub entries_exhausted : (u : ℕ) → entries_of (Ok (verdict.Exhausted u)) left ≡ 0
   unfolding entries_of
   entries_exhausted u = refl
 
-  pub entries_refused : (r : Refusal) → entries_of (answer.Refused r) left ≡ 0
+  pub entries_refused : (r : Refusal) → entries_of (Err r) left ≡ 0
   unfolding entries_of
   entries_refused r = refl
 
@@ -82,7 +79,7 @@ module _ (left right pairs : List ℕ) (budget room work : ℕ) (out after : Lis
   o = find_files left right pairs budget room work
 
   pub map_is : (a : Answer) → numbers a ≡ numbers (answer_of o) → n ≡ entries_of a left → take n after ≡ map_found o
-  map_is (answer.Found u) e h =
+  map_is (Ok (verdict.Found u)) e h =
       let g = found_by o u (sym e) in
       let c = files_found left right pairs budget room work u g.0 g.1 in
       let l : n ≡ length g.0 = h ∙ entries_found left u ∙ elements_held left c.call.left.its_model c.call.left.parsed ∙ sym c.sound.its_length in
@@ -90,10 +87,10 @@ module _ (left right pairs : List ℕ) (budget room work : ℕ) (out after : Lis
       ∙ ap (λ (m : ℕ). take m (over g.0 out)) l
       ∙ over_front g.0 out
       ∙ sym (ap map_found g.1 ∙ map_of_found u g.0)
-  map_is (answer.None u) e h = ap (λ (m : ℕ). take m after) (h ∙ entries_none left u) ∙ sym (ap map_found (none_by o u (sym e)) ∙ map_of_none u)
-  map_is (answer.Exhausted u) e h =
+  map_is (Ok (verdict.None u)) e h = ap (λ (m : ℕ). take m after) (h ∙ entries_none left u) ∙ sym (ap map_found (none_by o u (sym e)) ∙ map_of_none u)
+  map_is (Ok (verdict.Exhausted u)) e h =
       let g = exhausted_by o (u ∷ []) (sym e) in ap (λ (m : ℕ). take m after) (h ∙ entries_exhausted left u) ∙ sym (ap map_found g.1 ∙ map_of_exhausted g.0)
-  map_is (answer.Refused r) e h = ap (λ (m : ℕ). take m after) (h ∙ entries_refused left r) ∙ sym (map_of_refusal o r e)
+  map_is (Err r) e h = ap (λ (m : ℕ). take m after) (h ∙ entries_refused left r) ∙ sym (map_of_refusal o r e)
 
   pub line_of_find : (a : Answer) → map_room ≡ room → work_room ≡ work → numbers a ≡ numbers (answer_of o) → n ≡ entries_of a left → line_with (numbers a) (take n after) ≡ found_line (find_files left right pairs budget map_room work_room)
   unfolding found_line
@@ -103,32 +100,22 @@ module _ (left right pairs : List ℕ) (budget room work : ℕ) (out after : Lis
       ∙ ap (λ (k : ℕ). found_line (find_files left right pairs budget k work)) (sym p)
       ∙ ap (λ (k : ℕ). found_line (find_files left right pairs budget map_room k)) (sym q)
 
--- as many entries of the output as the map may have
-pub first_entries : (n : ℕ) (map out : List ℕ) → map_room ≡ length map → length out ≡ length map → n ≤ map_room → IsPrefixLen n out
-first_entries n map out a b h = prefix_len_of_le n out (omega arith)
-
 -- how many elements the model in a file has, by what reading it answers
-module _ (s : List ℕ) (r : Reading) (e : r ≡ reading_of (parse s)) where
-  pub elements_read : r.answer ≡ parsed.Model → (r.layout.size ≡ elements_in s) × (r.layout.size ≤ map_room)
-  elements_read h =
-      let k = reading_reads s r e h in
-      (size_is s r.layout k ∙ sym (elements_held s (model_of s) k.accepted), omega (arith, size_is s r.layout k, (reads_formed s r.layout k).few_elements))
+module _ (s : List ℕ) where
+  pub elements_read : (l : Layout) → Ok l ≡ reading_of (parse s) → (l.size ≡ elements_in s) × (l.size ≤ map_room)
+  elements_read l e =
+      let k = reading_reads s l e in
+      (size_is s l k ∙ sym (elements_held s (model_of s) k.accepted), omega (arith, size_is s l k, (reads_formed s l k).few_elements))
 
-  pub elements_none : (f : Fault) → r.answer ≡ parsed.Fault f → (0 ≡ elements_in s) × (0 ≤ map_room)
-  elements_none f h = (sym (elements_faulty s f (reading_faults s r f e h)), omega arith)
+  pub elements_none : (f : Fault) → Err f ≡ reading_of (parse s) → (0 ≡ elements_in s) × (0 ≤ map_room)
+  elements_none f e = (sym (elements_faulty s f (reading_faults s f e)), omega arith)
 
 -- the line of a job
 module _ (s : List ℕ) where
-  -- with the bounds of the parts that are handed on, as the code has them
-  pub line_of_job : (left right pairs : Value) (budget : ℕ) → job_of s ≡ Job left right pairs budget
-      → found_line (find_files (part s left.start (left.start + left.len - left.start)) (part s right.start (right.start + right.len - right.start)) (part s pairs.start (pairs.start + pairs.len - pairs.start)) budget map_room work_room) ≡ line_of s
+  pub line_of_job : (job : Job) → job_of s ≡ Some job → found_line (find_files (value_in s job.left) (value_in s job.right) (value_in s job.pairs) job.budget map_room work_room) ≡ line_of s
   unfolding line_of answer_to
-  line_of_job left right pairs budget e =
-      let a : left.start + left.len - left.start ≡ left.len = omega arith in
-      let b : right.start + right.len - right.start ≡ right.len = omega arith in
-      let c : pairs.start + pairs.len - pairs.start ≡ pairs.len = omega arith in
-      rw (a, b, c) (sym (ap (answer_to s) e))
+  line_of_job job e = sym (ap (answer_to s) e)
 
-  pub line_of_broken : job_of s ≡ Broken → line_with (21 ∷ []) [] ≡ line_of s
+  pub line_of_broken : job_of s ≡ None → line_with (21 ∷ []) [] ≡ line_of s
   unfolding line_of answer_to
   line_of_broken e = sym (ap (answer_to s) e)

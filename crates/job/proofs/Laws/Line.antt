@@ -1,16 +1,16 @@
--- The laws of a line: texts put one behind the other, bytes put one by one, the entries of a map, and the numbers at its start. Assumes nothing.
-use Prim.Native.Nat.{ℕ, suc, ◌+◌, ◌*◌, ◌≤◌, ◌<◌}
+-- The laws of a line: texts put one behind the other, the entries of a map, words put one by one with a space before each, and the numbers at its start. Assumes nothing.
+use Prim.Native.Nat.{ℕ, ◌+◌, ◌*◌, ◌≤◌, ◌<◌}
 use mathlib.Core.Path.{◌≡◌, refl, sym, ◌∙◌, ap}
 use mathlib.Core.Logic.{by_cases}
-use mathlib.Core.List.{List, [], ◌∷◌, ◌++◌, map, append_assoc, append-nil}
+use mathlib.Core.List.{List, [], ◌∷◌, ◌++◌, map, map-append, append_assoc, append-nil}
 use native.Mathlib.Omega.{arith}
-use native.Mathlib.Numerals.{add-one}
 use native.Mathlib.Decide.{dec_le}
 use borrow.Author.Tests.{eq-eqb, ne_eqb}
-use lib.ListN.{length, get_or, take, drop, set, length-append, length-set, drop_of_length-le}
-use lib.Seq.{drop-cons, take-suc, take-suc-set, take_all, length-take-le}
+use lib.ListN.{length, get_or, take, length-append}
+use lib.Seq.{take_all, length-take-le}
+use Rattle.std.proofs.lemmas.List.{take_more}
 use Rattle.job.specs.Line.{decimal, entry, spaced, listed, line_with}
-use Rattle.job.specs.Writing.{Added, numbers_room}
+use Rattle.job.specs.Writing.{Added}
 
 module _ {line : List ℕ} {at : ℕ} {text : List ℕ} {r : ℕ} {after : List ℕ} (a : Added line at text r after) where
   -- a text behind another
@@ -32,40 +32,6 @@ module _ {line : List ℕ} {at : ℕ} {text : List ℕ} {r : ℕ} {after : List 
       let e = ap length (sym (take_all r after (omega arith)) ∙ a.holds) ∙ length-append (take at line) text in
       absurd (omega (arith, a.ends, length-take-le at line h, e)))
 
--- bytes: i of them are put
-pub record Putting (before bytes : List ℕ) (at : ℕ) (line : List ℕ) (i : ℕ) : Type 0 where
-  pub room : at + length bytes ≤ length before
-  pub long : length line ≡ length before
-  pub within : i ≤ length bytes
-  pub so_far : take (at + i) line ≡ take at before ++ take i bytes
-
-pub putting_none : (before bytes : List ℕ) (at : ℕ) → at + length bytes ≤ length before → Putting before bytes at before 0
-putting_none before bytes at h = record {
-  room = h;
-  long = refl;
-  within = omega arith;
-  so_far = let e : at + 0 ≡ at = omega arith in rw e (sym (append-nil (take at before)));
-}
-
-module _ {before bytes : List ℕ} {at : ℕ} {line : List ℕ} {i : ℕ} (p : Putting before bytes at line i) where
-  pub putting_more : (v : ℕ) → i < length bytes → v ≡ get_or bytes i 0 → Putting before bytes at (set line (at + i) v) (i + 1)
-  putting_more v h e = record {
-    room = p.room;
-    long = length-set line (at + i) v ∙ p.long;
-    within = omega arith;
-    so_far =
-        let n : at + (i + 1) ≡ suc (at + i) = omega arith in
-        ap (λ (k : ℕ). take k (set line (at + i) v)) n
-        ∙ take-suc-set line (at + i) v (omega (arith, p.long, p.room))
-        ∙ ap (λ (xs : List ℕ). xs ++ (v ∷ [])) p.so_far
-        ∙ append_assoc (take at before) (take i bytes) (v ∷ [])
-        ∙ ap (λ (w : ℕ). take at before ++ (take i bytes ++ (w ∷ []))) e
-        ∙ ap (λ (xs : List ℕ). take at before ++ xs) (sym (ap (λ (k : ℕ). take k bytes) (add-one i) ∙ take-suc bytes i 0 h));
-  }
-
-  pub putting_all : length bytes ≤ i → Added before at bytes (at + i) line
-  putting_all h = record { ends = omega (arith, p.within); holds = p.so_far ∙ ap (λ (xs : List ℕ). take at before ++ xs) (take_all i bytes h) }
-
 -- an entry
 pub entry_none : (e : ℕ) → e ≡ 255 → 45 ∷ [] ≡ entry e
 unfolding entry
@@ -75,60 +41,35 @@ pub entry_some : (e : ℕ) → (e ≡ 255 → ⊥) → decimal e ≡ entry e
 unfolding entry
 entry_some e h = rw (ne_eqb e 255 h, entry)
 
-spaced_cons : (word : List ℕ) (words : List (List ℕ)) → spaced (word ∷ words) ≡ (32 ∷ word) ++ spaced words
+spaced_append : (a b : List (List ℕ)) → spaced (a ++ b) ≡ spaced a ++ spaced b
 unfolding spaced
-spaced_cons word words = refl
+spaced_append [] b = refl
+spaced_append (word ∷ words) b = ap (λ (xs : List ℕ). (32 ∷ word) ++ xs) (spaced_append words b) ∙ sym (append_assoc (32 ∷ word) (spaced words) (spaced b))
 
-spaced_nil : spaced [] ≡ []
-unfolding spaced
-spaced_nil = refl
-
--- the entries of a map
-abbrev entries : List ℕ → List ℕ
-entries f = spaced (map entry f)
-
--- i of them are put, and the place is `end`
-pub record Mapping (before f : List ℕ) (at : ℕ) (line : List ℕ) (end i : ℕ) : Type 0 where
-  pub room : at + 21 * length f ≤ length before
-  pub long : length line ≡ length before
-  pub within : i ≤ length f
+-- the words of the first i numbers, a space before each, are put, and the place is `end`
+pub record Mapping (word : ℕ → List ℕ) (before f : List ℕ) (at : ℕ) (line : List ℕ) (end i : ℕ) : Type 0 where
+  pub added : Added before at (spaced (map word (take i f))) end line
   pub short : end ≤ at + 21 * i
-  pub left : end + length (entries (drop i f)) ≡ at + length (entries f)
-  pub rest : take end line ++ entries (drop i f) ≡ take at before ++ entries f
 
-pub mapping_none : (before f : List ℕ) (at : ℕ) → at + 21 * length f ≤ length before → Mapping before f at before at 0
-mapping_none before f at h = record { room = h; long = refl; within = omega arith; short = omega arith; left = refl; rest = refl }
+module _ (word : ℕ → List ℕ) (before f : List ℕ) (at : ℕ) where
+  pub mapping_none : Mapping word before f at before at 0
+  unfolding spaced
+  mapping_none = record { added = record { ends = omega arith; holds = sym (append-nil (take at before)) }; short = omega arith }
 
-module _ {before f : List ℕ} {at : ℕ} {line : List ℕ} {end i : ℕ} (m : Mapping before f at line end i) where
-  pub mapping_room : i < length f → end + 21 ≤ length line
-  mapping_room h = omega (arith, m.room, m.long, m.short)
+  module _ (line : List ℕ) (end i : ℕ) (m : Mapping word before f at line end i) where
+    pub mapping_more : (r : ℕ) (after : List ℕ) → i < length f → Added line end (32 ∷ word (get_or f i 0)) r after → r ≤ end + 21 → Mapping word before f at after r (i + 1)
+    unfolding spaced
+    mapping_more r after h a s = record {
+      added = added_as (added_more m.added a) (sym (
+          ap (λ (xs : List ℕ). spaced (map word xs)) (take_more f i 0 h)
+          ∙ ap spaced (map-append word (take i f) (get_or f i 0 ∷ []))
+          ∙ spaced_append (map word (take i f)) (word (get_or f i 0) ∷ [])
+          ∙ ap (λ (xs : List ℕ). spaced (map word (take i f)) ++ (32 ∷ xs)) (append-nil (word (get_or f i 0)))));
+      short = omega (arith, m.short, s);
+    }
 
-  pub mapping_more : (e r : ℕ) (after : List ℕ) → i < length f → e ≡ get_or f i 0 → Added line end (32 ∷ entry e) r after → r ≤ end + 21 → length after ≡ length line → Mapping before f at after r (i + 1)
-  mapping_more e r after h q a s l = record {
-    room = m.room;
-    long = l ∙ m.long;
-    within = omega arith;
-    short = omega (arith, m.short);
-    left = omega (arith, a.ends, m.left, ap length unfolded, length-append (32 ∷ entry e) (entries (drop (i + 1) f)));
-    rest =
-        ap (λ (xs : List ℕ). xs ++ entries (drop (i + 1) f)) a.holds
-        ∙ append_assoc (take end line) (32 ∷ entry e) (entries (drop (i + 1) f))
-        ∙ ap (λ (xs : List ℕ). take end line ++ xs) (sym unfolded)
-        ∙ m.rest;
-  }
-    where
-      unfolded : entries (drop i f) ≡ (32 ∷ entry e) ++ entries (drop (i + 1) f)
-      unfolded =
-          ap entries (drop-cons f i 0 h ∙ ap (λ (k : ℕ). get_or f i 0 ∷ drop k f) (sym (add-one i)) ∙ ap (λ (x : ℕ). x ∷ drop (i + 1) f) (sym q))
-          ∙ spaced_cons (entry e) (map entry (drop (i + 1) f))
-
-  pub mapping_all : length f ≤ i → Added before at (entries f) end line
-  mapping_all h =
-      let e : entries (drop i f) ≡ [] = ap entries (drop_of_length-le f h) ∙ spaced_nil in
-      record {
-        ends = omega (arith, m.left, ap length e);
-        holds = sym (append-nil (take end line)) ∙ ap (λ (xs : List ℕ). take end line ++ xs) (sym e) ∙ m.rest;
-      }
+    pub mapping_all : length f ≤ i → Added before at (spaced (map word f)) end line
+    mapping_all h = added_as m.added (ap (λ (xs : List ℕ). spaced (map word xs)) (take_all i f h))
 
 -- the numbers at the start of a line
 module _ (n : ℕ) where
@@ -143,10 +84,6 @@ module _ (n : ℕ) where
   pub listed_three : (v w : ℕ) → decimal n ++ ((32 ∷ decimal v) ++ (32 ∷ decimal w)) ≡ listed (n ∷ v ∷ w ∷ [])
   unfolding listed spaced
   listed_three v w = ap (λ (xs : List ℕ). decimal n ++ ((32 ∷ decimal v) ++ (32 ∷ xs))) (sym (append-nil (decimal w)))
-
--- numbers that are known by another name
-pub added_numbers : {line : List ℕ} {r : ℕ} {after : List ℕ} (text same : List ℕ) → text ≡ same → Added line 0 text r after × (r ≤ numbers_room) → Added line 0 same r after × (r ≤ numbers_room)
-added_numbers text same e a = (added_as a.0 e, a.1)
 
 -- the line
 pub line_whole : (ns f : List ℕ) → listed ns ++ (spaced (map entry f) ++ (10 ∷ [])) ≡ line_with ns f

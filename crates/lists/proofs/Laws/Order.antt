@@ -9,13 +9,14 @@ use native.Mathlib.Numerals.{add-one}
 use native.Mathlib.Decide.{dec_le}
 use borrow.Author.Tests.{lt-ltb, le-ltb, eq-eqb, ne_eqb, eqb-true}
 use lib.Dec.{ltb, eqb}
+use lib.Pointwise.{pointwise}
 use lib.ListN.{length, get_or, drop, drop_of_length-le}
 use lib.Seq.{drop-cons}
 use Rattle.lists.specs.Every.{pairwise}
 use Rattle.lists.specs.Order.{same_row, row_before, ascending_from, ascending}
 use Rattle.lists.specs.Part.{part, rows_of}
 use Rattle.lists.proofs.Laws.Tests.{same_test}
-use Rattle.lists.proofs.Laws.Every.{pairwise_equal, pairwise_refl}
+use Rattle.lists.proofs.Laws.Every.{pairwise_yes, pairwise_no, pairwise_equal, pairwise_refl}
 use Rattle.lists.proofs.Laws.Part.{rows_of_next, rows_of_end}
 
 -- rows that pass for equal are equal, and the other way round
@@ -122,3 +123,15 @@ same_row_trans x y z h k = rw (same_row_lem x y h) k
 pub rows_same : (xs ys : List ℕ) → same_row xs ys ≡ pairwise eqb xs ys
 unfolding same_row
 rows_same xs ys = refl
+
+-- what `==` answers at two slices
+pub same_slices : (xs ys : List ℕ) → pointwise eqb xs ys ≡ same_row xs ys
+unfolding same_row pairwise
+same_slices [] [] = refl
+same_slices [] (y ∷ ys) = refl
+same_slices (x ∷ xs) [] = refl
+same_slices (x ∷ xs) (y ∷ ys) = go (same_slices xs ys) (eqb x y) refl
+  where
+    go : pointwise eqb xs ys ≡ same_row xs ys → (b : Bool) → eqb x y ≡ b → pointwise eqb (x ∷ xs) (y ∷ ys) ≡ same_row (x ∷ xs) (y ∷ ys)
+    go k true e = rw (e, pairwise_yes eqb x xs y ys e) k
+    go k false e = rw (e, pairwise_no eqb x xs y ys e)

@@ -4,7 +4,7 @@ use mathlib.Core.Path.{◌≡◌, refl, sym, ap, ◌∙◌}
 use mathlib.Core.Bool.{Bool, true, false}
 use mathlib.Core.List.{List, [], ◌∷◌, ◌++◌}
 use native.Mathlib.Omega.{arith}
-use native.Mathlib.Nat.{suc-mul}
+use native.Mathlib.Nat.{suc-mul, mul-le-mul_right}
 use lib.ListN.{length, get_or, take, drop, length-take, length-drop}
 use lib.Seq.{drop-drop, take_all, take-take, take-nil, get_or-take, get_or-drop}
 use Rattle.lists.specs.Every.{all, any}
@@ -129,6 +129,17 @@ get_d_rows_of a (suc c) s zero d h = let e : 0 * a ≡ 0 = omega arith in rw e
 get_d_rows_of a (suc c) s (suc i) d h =
     let e : a + i * a ≡ suc i * a = omega (arith, suc-mul i a) in
     get_d_rows_of a c (drop a s) i d (omega arith) ∙ ap (take a) (drop-drop (i * a) a s) ∙ ap (λ (k : ℕ). part s k a) e
+
+-- its length
+pub length-row : {A : Type 0} (a c : ℕ) (s : List A) (i : ℕ) (d : List A) → c * a ≤ length s → i < c → length (get_or (rows_of a c s) i d) ≡ a
+unfolding rows_of
+length-row a zero s i d fits h = absurd (omega arith)
+length-row a (suc c) s zero d fits h = rw length-take (omega (arith, suc-mul c a))
+length-row a (suc c) s (suc i) d fits h = length-row a c (drop a s) i d (omega (arith, length-drop a s, suc-mul c a)) (omega arith)
+
+-- the first so many of them
+pub rows_of-fewer : {A : Type 0} (a c i : ℕ) (s : List A) → c * a ≤ length s → i ≤ c → i * a ≤ length s
+rows_of-fewer a c i s fits h = omega (arith, mul-le-mul_right a h)
 
 -- Loops over an offset that answer true at the first row that passes. What is known before each turn is one record: `left` of the c rows of a members
 -- are left from the offset `at` on, they lie in s, and one of them passes where one of all rows does. A row is handed on by its ends, as

@@ -2,9 +2,12 @@
 use Prim.Native.Nat.{ℕ, zero, suc, ◌+◌, ◌-◌, ◌<◌, ◌≤◌}
 use mathlib.Core.Path.{◌≡◌, refl, sym, ◌∙◌, ap, subst}
 use mathlib.Core.List.{List, [], ◌∷◌, ◌++◌}
+use borrow.Rule.Slice.PartMut.{put_mid}
+use Rattle.std.proofs.Common.{rules}
+use Rattle.std.proofs.lemmas.List.{places}
 use native.Mathlib.Nat.{zero-add, suc-add}
 use native.Mathlib.Omega.{arith}
-use lib.ListN.{length, get_or, set, take, drop, length-drop, length-append, take-append-drop}
+use lib.ListN.{length, get_or, set, take, drop, replicate, length-drop, length-append, take-append-drop}
 use lib.Seq.{get_or-drop, length-take-le, take-append-le, take-take, get_or-append-add}
 use Rattle.lists.specs.Part.{part, over}
 use Rattle.lists.proofs.Laws.Every.{get_d_inside}
@@ -57,6 +60,25 @@ module _ (start : ℕ) (new old : List ℕ) (fits : start + length new ≤ lengt
   over_at_entry i h =
       let e : length (take start old) + i ≡ start + i = omega (arith, front_long) in
       rw e at (get_or-append-add (take start old) (over new (drop start old)) i 0) ∙ get_d_over new (drop start old) i 0 h
+
+-- a list that takes the place of as many entries
+pub part_over : (start n : ℕ) (new old put : List ℕ) → n ≡ length new → put ≡ new → put_mid start n old put ≡ over_at start new old
+unfolding over_at over
+part_over start n new old put e f = rw (f, e) refl
+
+-- a part filled with zeros, and the rest as it was
+module _ (w zeros : List ℕ) (start n k : ℕ) (fits : start + n ≤ length w) (e : k ≡ n) (is : zeros ≡ replicate (length (part w start k)) 0) where
+  pub filled_length : length (put_mid start k w zeros) ≡ length w
+  filled_length = search (rules, places)
+
+  pub filled_there : (i : ℕ) → i < n → get_or (put_mid start k w zeros) (start + i) 0 ≡ 0
+  filled_there i h = search (rules, places)
+
+  pub filled_below : (i : ℕ) → i < start → get_or (put_mid start k w zeros) i 0 ≡ get_or w i 0
+  filled_below i h = search (rules, places)
+
+  pub filled_above : (i : ℕ) → start + n ≤ i → get_or (put_mid start k w zeros) i 0 ≡ get_or w i 0
+  filled_above i h = search (rules, places)
 
 -- a store behind a list
 set_behind : (xs ys : List ℕ) (i v : ℕ) → set (xs ++ ys) (length xs + i) v ≡ xs ++ set ys i v

@@ -126,6 +126,15 @@ module _ (rows code : ℕ) where
       (λ k. omega (arith, bucket_some (omega (arith, h)) k, buckets_some (omega (arith, h)) k))
       (λ k. omega (arith, bucket_many (omega (arith, k)), buckets_many (omega (arith, k)))))
 
+  pub bucket_is : bucket_of rows code ≡ code % buckets_for rows
+  bucket_is =
+      by_cases (dec_le rows 64)
+      (λ h. rw (bucket_few h, buckets_few h) refl)
+      (λ h.
+      by_cases (dec_le rows 512)
+      (λ k. rw (bucket_some (omega (arith, h)) k, buckets_some (omega (arith, h)) k) refl)
+      (λ k. rw (bucket_many (omega (arith, k)), buckets_many (omega (arith, k))) refl))
+
   pub buckets_fit : buckets_for rows ≤ 4096
   buckets_fit =
       by_cases (dec_le rows 64)

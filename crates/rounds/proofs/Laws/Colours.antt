@@ -12,14 +12,11 @@ use Rattle.lists.specs.Numbers.{up_from}
 use Rattle.lists.specs.Part.{over}
 use Rattle.lists.proofs.Laws.Counting.{how_many_fits}
 use Rattle.lists.proofs.Laws.Numbers.{length-up_from}
-use Rattle.stored.specs.declared.layout.Layout.{Layout}
 use Rattle.stored.specs.Types.{type_in}
+use Rattle.stored.proofs.Laws.WellFormed.{WellFormed}
 use Rattle.stored.specs.Model.{Model, size, is_rep_in}
-use Rattle.stored.specs.Reading.{Reads, model_of}
-use Rattle.rows.proofs.Laws.Given.{types_in, types_between, roots_in, roots_between}
 use Rattle.rounds.specs.Colours.{colour_at, paired, left_colour, left_colours, right_colour, right_colours}
 use Rattle.rounds.specs.Parts.{left_colour_in, right_colour_in}
-use Rattle.rounds.proofs.Laws.Parts.{roots_whole}
 
 -- whether an element has a partner
 module _ (partners : List ℕ) (x : ℕ) where
@@ -71,18 +68,18 @@ pub length_right : (b : Model) (left partners : List ℕ) → length (right_colo
 unfolding right_colours
 length_right b left partners = length-map (up_from 0 (size b)) (right_colour b left partners) ∙ length-up_from 0 (size b)
 
--- what is handed on of a file that was read
-module _ (s : List ℕ) (l : Layout) (reads : Reads s l) where
-  left_handed : (partners : List ℕ) → map (left_colour_in (types_in s l) (roots_in s l) partners) (up_from 0 (length (roots_in s l))) ≡ left_colours (model_of s) partners
+-- what is said of the types and the roots of a model as they are handed on
+module _ (m : Model) (w : WellFormed m) (ts xs : List ℕ) (d : ts ≡ m.sizes) (e : xs ≡ m.roots) where
+  left_handed : (partners : List ℕ) → map (left_colour_in ts xs partners) (up_from 0 (length xs)) ≡ left_colours m partners
   unfolding left_colours left_colour left_colour_in
-  left_handed partners = rw (roots_between s l reads, types_between s l reads, roots_whole s l reads)
+  left_handed partners = rw (e, d, w.roots_length)
 
-  right_handed : (left partners : List ℕ) → map (right_colour_in (types_in s l) (roots_in s l) left partners) (up_from 0 (length (roots_in s l))) ≡ right_colours (model_of s) left partners
+  right_handed : (left partners : List ℕ) → map (right_colour_in ts xs left partners) (up_from 0 (length xs)) ≡ right_colours m left partners
   unfolding right_colours right_colour right_colour_in
-  right_handed left partners = rw (roots_between s l reads, types_between s l reads, roots_whole s l reads)
+  right_handed left partners = rw (e, d, w.roots_length)
 
-  pub left_written : (partners old out : List ℕ) → out ≡ over (map (left_colour_in (types_in s l) (roots_in s l) partners) (up_from 0 (length (roots_in s l)))) old → out ≡ over (left_colours (model_of s) partners) old
-  left_written partners old out e = e ∙ ap (λ (new : List ℕ). over new old) (left_handed partners)
+  pub left_written : (partners old out : List ℕ) → out ≡ over (map (left_colour_in ts xs partners) (up_from 0 (length xs))) old → out ≡ over (left_colours m partners) old
+  left_written partners old out h = h ∙ ap (λ (new : List ℕ). over new old) (left_handed partners)
 
-  pub right_written : (left partners old out : List ℕ) → out ≡ over (map (right_colour_in (types_in s l) (roots_in s l) left partners) (up_from 0 (length (roots_in s l)))) old → out ≡ over (right_colours (model_of s) left partners) old
-  right_written left partners old out e = e ∙ ap (λ (new : List ℕ). over new old) (right_handed left partners)
+  pub right_written : (left partners old out : List ℕ) → out ≡ over (map (right_colour_in ts xs left partners) (up_from 0 (length xs))) old → out ≡ over (right_colours m left partners) old
+  right_written left partners old out h = h ∙ ap (λ (new : List ℕ). over new old) (right_handed left partners)

@@ -9,8 +9,11 @@ use native.Mathlib.Omega.{arith}
 use native.Mathlib.Decide.{ℕ_discrete, dec_le}
 use borrow.Author.Tests.{eqb-true, eqb-false, eq-eqb, ne_eqb, ltb-true, lt-ltb, not-true}
 use lib.Dec.{eqb, ltb}
+use lib.Pointwise.{pointwise, bytes_decides}
 use lib.ListN.{length, get_or, set, replicate, length-set, length-replicate, get_or-replicate, get_or-eq_default}
 use lib.Seq.{get_or-set_same, get_or-set_other, ext_get_or}
+use Rattle.stored.proofs.Laws.WellFormed.{WellFormed}
+use Rattle.stored.specs.Model.{Model}
 use Rattle.lists.specs.Every.{all, keep, how_many}
 use Rattle.lists.specs.First.{firsts}
 use Rattle.lists.specs.Numbers.{up_from}
@@ -21,12 +24,9 @@ use Rattle.lists.proofs.Laws.Numbers.{up_from_end, up_from_mem}
 use Rattle.lists.proofs.Laws.Order.{same_row_lem, same_row_refl}
 use Rattle.lists.proofs.Laws.Sets.{keep_distinct, firsts_distinct, mem_firsts, firsts_mem}
 use Rattle.lists.proofs.Laws.Counting.{how_many_none, how_many_yes, how_many_no, how_many_append, how_many_mem, how_many_some, how_many_fits, distinct_fits, up_from_distinct}
-use Rattle.stored.specs.declared.layout.Layout.{Layout}
-use Rattle.stored.specs.Reading.{Reads, model_of}
-use Rattle.rows.proofs.Laws.Given.{roots_in}
 use Rattle.rounds.specs.Round.{colours_of, colour_count, equal_counts}
 use Rattle.rounds.specs.Parts.{colours_in, are_small, CountsOf, is_filled}
-use Rattle.rounds.proofs.Laws.Parts.{up_more, colours_handed}
+use Rattle.rounds.proofs.Laws.Parts.{count_yes, count_no, colours_handed}
 
 -- colours below 128
 module _ (colours : List ℕ) where
@@ -76,21 +76,18 @@ module _ (table : List ℕ) (n k : ℕ) (i : Filled table n k) where
 
   -- the entry at k
   module _ (h : k < length table) where
-    one_more : how_many (is_filled table) (up_from 0 (k + 1)) ≡ how_many (is_filled table) (up_from 0 k) + how_many (is_filled table) (k ∷ [])
-    one_more = ap (how_many (is_filled table)) (up_more k) ∙ how_many_append (is_filled table) (up_from 0 k) (k ∷ [])
-
     pub filled_some : (get_or table k 0 ≡ 0 → ⊥) → (m : ℕ) → m ≡ n + 1 → Filled table m (k + 1)
     filled_some d m q = record {
       few = omega (arith, i.few);
       within = omega arith;
-      same = omega (arith, i.same, one_more, how_many_yes (is_filled table) k [] (is_filled_lem table k d), how_many_none (is_filled table));
+      same = omega (arith, i.same, count_yes (is_filled table) k (is_filled_lem table k d));
     }
 
     pub filled_none : get_or table k 0 ≡ 0 → (m : ℕ) → m ≡ n → Filled table m (k + 1)
     filled_none d m q = record {
       few = omega (arith, i.few);
       within = omega arith;
-      same = omega (arith, i.same, one_more, how_many_no (is_filled table) k [] (is_empty table k d), how_many_none (is_filled table));
+      same = omega (arith, i.same, count_no (is_filled table) k (is_empty table k d));
     }
 
 -- a table of zeros counts none
@@ -172,6 +169,13 @@ filled_count {table = table} {colours = colours} c =
         let n = mem_firsts eqb colours k m in
         keep_mem (is_filled table) (up_from 0 (length table)) k (up_from_mem 0 (length table) k zero-le (omega (arith, there_inside c k n))) (there_filled c k n)
 
+-- `==` of two tables
+pub tables_equal : (table table' : List ℕ) → pointwise eqb table table' ≡ same_row table table'
+tables_equal table table' =
+    let decided = bytes_decides table table' in
+    same_test (pointwise eqb table table') (same_row table table') (λ h. subst (λ (t : List ℕ). same_row table t ≡ true) (decided.0 h) (same_row_refl table))
+    (λ h. decided.1 (same_row_lem table table' h))
+
 -- two lists of colours
 module _ (one other : List ℕ) where
   abbrev pub equally_many : ℕ → Bool
@@ -200,22 +204,22 @@ module _ (one other : List ℕ) where
             let e = ext_get_or 0 table table' (c.room ∙ sym d.room) (λ k l. c.counts k ∙ equal_everywhere h k ∙ sym (d.counts k)) in
             subst (λ (t : List ℕ). same_row table t ≡ true) e (same_row_refl table)
 
--- what is handed on of files that were read
-module _ (s : List ℕ) (l : Layout) (reads : Reads s l) (colours : List ℕ) where
-  pub small_handed : are_small (colours_of (model_of s) colours) ≡ true → are_small (colours_in (roots_in s l) colours) ≡ true
-  small_handed h = ap are_small (colours_handed s l reads colours) ∙ h
+-- what is said of the roots of a model as they are handed on
+module _ (m : Model) (w : WellFormed m) (xs : List ℕ) (e : xs ≡ m.roots) (colours : List ℕ) where
+  pub small_handed : are_small (colours_of m colours) ≡ true → are_small (colours_in xs colours) ≡ true
+  small_handed h = ap are_small (colours_handed m w xs e colours) ∙ h
 
-  pub counts_handed : (table : List ℕ) → CountsOf table (colours_in (roots_in s l) colours) → CountsOf table (colours_of (model_of s) colours)
-  counts_handed table c = subst (CountsOf table) (colours_handed s l reads colours) c
+  pub counts_handed : (table : List ℕ) → CountsOf table (colours_in xs colours) → CountsOf table (colours_of m colours)
+  counts_handed table c = subst (CountsOf table) (colours_handed m w xs e colours) c
 
-  pub count_handed : (table : List ℕ) → CountsOf table (colours_in (roots_in s l) colours) → how_many (is_filled table) (up_from 0 (length table)) ≡ colour_count (model_of s) colours
+  pub count_handed : (table : List ℕ) → CountsOf table (colours_in xs colours) → how_many (is_filled table) (up_from 0 (length table)) ≡ colour_count m colours
   unfolding colour_count
   count_handed table c = filled_count (counts_handed table c)
 
   pub equal_handed :
-      (t : List ℕ) (m : Layout) (other-reads : Reads t m) (colours' : List ℕ) (table table' : List ℕ) → CountsOf table (colours_in (roots_in s l) colours) → CountsOf table' (colours_in (roots_in t m) colours')
-      → same_row table table' ≡ equal_counts (model_of s) (model_of t) (record { left = colours; right = colours' })
+      (n : Model) (v : WellFormed n) (ys : List ℕ) (f : ys ≡ n.roots) (colours' : List ℕ) (table table' : List ℕ) → CountsOf table (colours_in xs colours) → CountsOf table' (colours_in ys colours')
+      → same_row table table' ≡ equal_counts m n (record { left = colours; right = colours' })
   unfolding equal_counts
-  equal_handed t m other-reads colours' table table' c d =
-      same_tables (colours_of (model_of s) colours) (colours_of (model_of t) colours') (counts_handed table c)
-      (subst (CountsOf table') (colours_handed t m other-reads colours') d)
+  equal_handed n v ys f colours' table table' c d =
+      same_tables (colours_of m colours) (colours_of n colours') (counts_handed table c)
+      (subst (CountsOf table') (colours_handed n v ys f colours') d)

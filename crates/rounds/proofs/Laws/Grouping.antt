@@ -173,13 +173,6 @@ module _ (w₀ : List ℕ) (cells : ℕ) (roots : List ℕ) (raise : ℕ) (holde
           ∙ ap (λ (j : ℕ). held_after S roots raise (held_at j (take n holders) (x + raise)) (up_from (x + 1) (length roots - (x + 1)))) (sym z))
           p.after (count_small i n) (rw (sym g.same) p.holding) w' kept
 
--- the same, said of equal things
-pub grouping_as :
-    (w₀ : List ℕ) (cells : ℕ) (roots : List ℕ) (raise : ℕ) (holders₀ : List ℕ) (count : ℕ) (out₀ w w' holders holders' marks marks' heads heads' links links' lone lone' : List ℕ) (n n' : ℕ) (out out' : List ℕ) (x : ℕ)
-    → w ≡ w' → holders ≡ holders' → marks ≡ marks' → heads ≡ heads' → links ≡ links' → lone ≡ lone' → out ≡ out' → n ≡ n'
-    → Grouping w₀ cells roots raise holders₀ count out₀ w' holders' marks' heads' links' lone' n' out' x → Grouping w₀ cells roots raise holders₀ count out₀ w holders marks heads links lone n out x
-grouping_as w₀ cells roots raise holders₀ count out₀ w w' holders holders' marks marks' heads heads' links links' lone lone' n n' out out' x e f i j l o g h k = rw (e, f, i, j, l, o, g, h) k
-
 -- both sides, the right after the left
 module _ (w : List ℕ) (cells : ℕ) (roots roots' out out' : List ℕ) (r : Ready cells w) (few : length roots ≤ 64) (few' : length roots' ≤ 64) where
   pub left_asks :

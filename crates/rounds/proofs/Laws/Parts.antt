@@ -1,4 +1,4 @@
--- The laws of colours by the parts of a file: one representative more, tests of a colour, and that they are those of the model that was read.
+-- The laws of colours by the parts of a file: one number more, one representative more, tests of a colour, and that they are those of the model that was read.
 -- Assumes nothing.
 use Prim.Native.Nat.{ℕ, ◌+◌, ◌<◌, ◌≤◌, zero-le}
 use mathlib.Core.Path.{◌≡◌, refl, ◌∙◌, ap}
@@ -9,18 +9,17 @@ use native.Mathlib.Numerals.{add-one}
 use borrow.Author.Tests.{eq-eqb, ne_eqb}
 use lib.Dec.{eqb}
 use lib.ListN.{length, length-map}
-use Rattle.lists.specs.Every.{keep}
+use Rattle.lists.specs.Every.{keep, how_many}
 use Rattle.lists.specs.First.{lowest}
 use Rattle.lists.specs.Numbers.{up_from}
 use Rattle.lists.proofs.Laws.Every.{keep_none, keep_more, keep_past, keep_mem, mem_keep}
+use Rattle.lists.proofs.Laws.Counting.{how_many_none, how_many_yes, how_many_no, how_many_append}
 use Rattle.lists.proofs.Laws.Different.{keep_fits}
 use Rattle.lists.proofs.Laws.Numbers.{length-up_from, up_from_end, up_from_more, up_from_mem, mem_up_from}
 use Rattle.lists.proofs.Laws.Sets.{mem_map, map_mem}
-use Rattle.stored.specs.declared.layout.Layout.{Layout}
-use Rattle.stored.specs.Model.{size, is_rep_in}
-use Rattle.stored.specs.Reading.{Reads, model_of}
-use Rattle.stored.proofs.Laws.Reading.{reads_formed}
-use Rattle.rows.proofs.Laws.Given.{roots_in, roots_between}
+use Rattle.stored.proofs.Laws.WellFormed.{WellFormed}
+use Rattle.stored.specs.Limits.{max_types, max_elements}
+use Rattle.stored.specs.Model.{Model, is_rep_in}
 use Rattle.rounds.specs.Colours.{colour_at}
 use Rattle.rounds.specs.Round.{reps, colours_of}
 use Rattle.rounds.specs.Classes.{lowest_of}
@@ -29,6 +28,17 @@ use Rattle.rounds.specs.Parts.{reps_below, colours_below, reps_in, colours_in, h
 -- the numbers below one more
 pub up_more : (x : ℕ) → up_from 0 (x + 1) ≡ up_from 0 x ++ x ∷ []
 up_more x = let e : 0 + x ≡ x = omega arith in rw (add-one x, up_from_more 0 x, e)
+
+-- how many of the numbers below one more pass a test
+module _ (p : ℕ → Bool) (x : ℕ) where
+  one_more : how_many p (up_from 0 (x + 1)) ≡ how_many p (up_from 0 x) + how_many p (x ∷ [])
+  one_more = ap (how_many p) (up_more x) ∙ how_many_append p (up_from 0 x) (x ∷ [])
+
+  pub count_yes : p x ≡ true → how_many p (up_from 0 (x + 1)) ≡ how_many p (up_from 0 x) + 1
+  count_yes e = omega (arith, one_more, how_many_yes p x [] e, how_many_none p)
+
+  pub count_no : p x ≡ false → how_many p (up_from 0 (x + 1)) ≡ how_many p (up_from 0 x)
+  count_no e = omega (arith, one_more, how_many_no p x [] e, how_many_none p)
 
 -- one representative more, or one alias
 module _ (roots : List ℕ) where
@@ -100,19 +110,22 @@ module _ (roots colours : List ℕ) (k x : ℕ) where
       neither true = refl
       neither false = refl
 
--- what is handed on of a file that was read
-module _ (s : List ℕ) (l : Layout) (reads : Reads s l) where
-  pub roots_whole : length (model_of s).roots ≡ size (model_of s)
-  roots_whole = (reads_formed s l reads).roots_length
+-- what is said of the types and the roots of a model as they are handed on
+pub types_few : (m : Model) → WellFormed m → (ts : List ℕ) → ts ≡ m.sizes → length ts ≤ max_types
+types_few m w ts d = omega (arith, ap length d, w.few_types)
 
-  pub reps_handed : reps_in (roots_in s l) ≡ reps (model_of s)
+pub roots_few : (m : Model) → WellFormed m → (xs : List ℕ) → xs ≡ m.roots → length xs ≤ max_elements
+roots_few m w xs e = omega (arith, ap length e, w.roots_length, w.few_elements)
+
+module _ (m : Model) (w : WellFormed m) (xs : List ℕ) (e : xs ≡ m.roots) where
+  pub reps_handed : reps_in xs ≡ reps m
   unfolding reps_below reps
-  reps_handed = rw (roots_between s l reads, roots_whole)
+  reps_handed = rw (e, w.roots_length)
 
-  pub colours_handed : (colours : List ℕ) → colours_in (roots_in s l) colours ≡ colours_of (model_of s) colours
+  pub colours_handed : (colours : List ℕ) → colours_in xs colours ≡ colours_of m colours
   unfolding colours_below reps_below colours_of reps
-  colours_handed colours = rw (roots_between s l reads, roots_whole)
+  colours_handed colours = rw (e, w.roots_length)
 
-  pub lowest_handed : (colours : List ℕ) (k : ℕ) → lowest (has_colour (roots_in s l) colours k) 0 (length (roots_in s l)) ≡ lowest_of (model_of s) colours k
+  pub lowest_handed : (colours : List ℕ) (k : ℕ) → lowest (has_colour xs colours k) 0 (length xs) ≡ lowest_of m colours k
   unfolding has_colour lowest_of
-  lowest_handed colours k = rw (roots_between s l reads, roots_whole)
+  lowest_handed colours k = rw (e, w.roots_length)

@@ -18,11 +18,7 @@ use Rattle.lists.proofs.Laws.Every.{mem_place, get_d_mem}
 use Rattle.lists.proofs.Laws.Part.{length_part, get_d_part}
 use Rattle.stored.specs.Model.{Model, size, is_rep}
 use Rattle.stored.specs.Signature.{signature, same_signature}
-use Rattle.stored.specs.declared.layout.Layout.{Layout}
-use Rattle.stored.specs.Reading.{Reads, model_of}
 use Rattle.stored.proofs.Laws.WellFormed.{WellFormed}
-use Rattle.stored.proofs.Laws.Reading.{reads_formed}
-use Rattle.rows.proofs.Laws.Given.{roots_in, roots_between, roots_count, roots_few}
 use Rattle.stored.proofs.Laws.Representatives.{rep_known}
 use Rattle.rounds.specs.Colours.{colour_at}
 use Rattle.rounds.specs.Keys.{Key, key_of, same_bag, same_key, places_from}
@@ -115,53 +111,48 @@ module _ (a b : Model) (wa : WellFormed a) (wb : WellFormed b) (one : same_signa
                 (picked_mem x (get_or (places_on cells w x) i 0) (cells_of (joined a b)) (numbers_from 0 (colours_on w) (joined a b)) (subst (Memᴰ (get_or (places_on cells w x) i 0)) (p.numbered x) there)),
           )
 
--- the same, said of files
-module _ (s t : List ℕ) (l m : Layout) (rs : Reads s l) (rt : Reads t m) (one : same_signature (signature (model_of s)) (signature (model_of t)) ≡ true)
-    (cells : ℕ) (left right w : List ℕ) (p : Prepared (model_of s) (model_of t) cells left right w) (fits : length left ≡ size (model_of s)) (other_fits : length right ≡ size (model_of t)) where
-  abbrev a : Model
-  a = model_of s
+-- the same, said of the roots of both sides as they are handed on
+module _ (a b : Model) (wa : WellFormed a) (wb : WellFormed b) (one : same_signature (signature a) (signature b) ≡ true)
+    (cells : ℕ) (left right w : List ℕ) (p : Prepared a b cells left right w) (fits : length left ≡ size a) (other_fits : length right ≡ size b)
+    (xs ys : List ℕ) (ex : xs ≡ a.roots) (ey : ys ≡ b.roots) where
+  as_many_left : length xs ≡ size a
+  as_many_left = ap length ex ∙ wa.roots_length
 
-  abbrev b : Model
-  b = model_of t
+  as_many_right : length ys ≡ size b
+  as_many_right = ap length ey ∙ wb.roots_length
 
-  wa : WellFormed (model_of s)
-  wa = reads_formed s l rs
-
-  wb : WellFormed (model_of t)
-  wb = reads_formed t m rt
-
-  pub sides_ready : Ready cells w × (length (roots_in s l) ≤ 64) × (length (roots_in t m) ≤ 64) × (length (roots_in s l) ≤ length left) × (length (roots_in t m) ≤ length right)
+  pub sides_ready : Ready cells w × (length xs ≤ 64) × (length ys ≤ 64) × (length xs ≤ length left) × (length ys ≤ length right)
   sides_ready =
-      (prepared_ready a b wa wb one cells left right w p, roots_few s l rs, roots_few t m rt, omega (arith, roots_count s l rs, fits), omega (arith, roots_count t m rt, other_fits))
+      (prepared_ready a b wa wb one cells left right w p, omega (arith, as_many_left, wa.few_elements), omega (arith, as_many_right, wb.few_elements), omega (arith, as_many_left, fits), omega (arith, as_many_right, other_fits))
 
   -- what each side's list is
-  first_list : grouped (alike_on cells w) (roots_in s l) 0 [] (up_from 0 (length (roots_in s l))) ≡ (round a b (record { left = left; right = right })).left
+  first_list : grouped (alike_on cells w) xs 0 [] (up_from 0 (length xs)) ≡ (round a b (record { left = left; right = right })).left
   first_list =
-      ap₂ (λ (roots : List ℕ) (n : ℕ). grouped (alike_on cells w) roots 0 [] (up_from 0 n)) (roots_between s l rs) (roots_count s l rs)
+      ap₂ (λ (roots : List ℕ) (n : ℕ). grouped (alike_on cells w) roots 0 [] (up_from 0 n)) ex as_many_left
       ∙ new_left_lem a b wa wb one cells left right w p
 
   second_list :
-      grouped (alike_on cells w) (roots_in t m) 64 (held_after (alike_on cells w) (roots_in s l) 0 [] (up_from 0 (length (roots_in s l)))) (up_from 0 (length (roots_in t m)))
+      grouped (alike_on cells w) ys 64 (held_after (alike_on cells w) xs 0 [] (up_from 0 (length xs))) (up_from 0 (length ys))
       ≡ (round a b (record { left = left; right = right })).right
   second_list =
-      ap (λ (H : List ℕ). grouped (alike_on cells w) (roots_in t m) 64 H (up_from 0 (length (roots_in t m))))
-      (ap₂ (λ (roots : List ℕ) (n : ℕ). held_after (alike_on cells w) roots 0 [] (up_from 0 n)) (roots_between s l rs) (roots_count s l rs))
-      ∙ ap₂ (λ (roots : List ℕ) (n : ℕ). grouped (alike_on cells w) roots 64 (first_held a b wa wb one cells left right w p) (up_from 0 n)) (roots_between t m rt) (roots_count t m rt)
+      ap (λ (H : List ℕ). grouped (alike_on cells w) ys 64 H (up_from 0 (length ys)))
+      (ap₂ (λ (roots : List ℕ) (n : ℕ). held_after (alike_on cells w) roots 0 [] (up_from 0 n)) ex as_many_left)
+      ∙ ap₂ (λ (roots : List ℕ) (n : ℕ). grouped (alike_on cells w) roots 64 (first_held a b wa wb one cells left right w p) (up_from 0 n)) ey as_many_right
       ∙ new_right_lem a b wa wb one cells left right w p
 
   pub recoloured_both :
       (left' right' : List ℕ)
-      → left' ≡ over (grouped (alike_on cells w) (roots_in s l) 0 [] (up_from 0 (length (roots_in s l)))) left
-      → right' ≡ over (grouped (alike_on cells w) (roots_in t m) 64 (held_after (alike_on cells w) (roots_in s l) 0 [] (up_from 0 (length (roots_in s l)))) (up_from 0 (length (roots_in t m)))) right
+      → left' ≡ over (grouped (alike_on cells w) xs 0 [] (up_from 0 (length xs))) left
+      → right' ≡ over (grouped (alike_on cells w) ys 64 (held_after (alike_on cells w) xs 0 [] (up_from 0 (length xs))) (up_from 0 (length ys))) right
       → ◌≡◌ {A = Sides} (record { left = left'; right = right' }) (round a b (record { left = left; right = right }))
   recoloured_both left' right' e f =
-      let held = held_after (alike_on cells w) (roots_in s l) 0 [] (up_from 0 (length (roots_in s l))) in
+      let held = held_after (alike_on cells w) xs 0 [] (up_from 0 (length xs)) in
       ap₂ (λ (x y : List ℕ). record { left = x; right = y })
-      (e ∙ over_whole _ left (grouped_length (alike_on cells w) (roots_in s l) 0 [] (up_from 0 (length (roots_in s l))) ∙ length-up_from 0 (length (roots_in s l)) ∙ roots_count s l rs ∙ sym fits) ∙ first_list)
-      (f ∙ over_whole _ right (grouped_length (alike_on cells w) (roots_in t m) 64 held (up_from 0 (length (roots_in t m))) ∙ length-up_from 0 (length (roots_in t m)) ∙ roots_count t m rt ∙ sym other_fits) ∙ second_list)
+      (e ∙ over_whole _ left (grouped_length (alike_on cells w) xs 0 [] (up_from 0 (length xs)) ∙ length-up_from 0 (length xs) ∙ as_many_left ∙ sym fits) ∙ first_list)
+      (f ∙ over_whole _ right (grouped_length (alike_on cells w) ys 64 held (up_from 0 (length ys)) ∙ length-up_from 0 (length ys) ∙ as_many_right ∙ sym other_fits) ∙ second_list)
 
   -- the board is as it was
-  pub board_kept : (w' : List ℕ) → w' ≡ w → Board (model_of s) (model_of t) cells w'
+  pub board_kept : (w' : List ℕ) → w' ≡ w → Board a b cells w'
   board_kept w' e = rw e p.board
 
 -- rows whose fronts were recoloured

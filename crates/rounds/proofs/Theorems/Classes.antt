@@ -11,6 +11,7 @@ use borrow.Author.Tests.{eqb-true, eqb-false, eq-eqb, leb-true, leb-false, ltb-t
 use lib.Dec.{eqb, ltb, leb}
 use lib.ListN.{length, set, length-map}
 use lib.Seq.{get_or-set_same, get_or-set_other}
+use Rattle.std.specs.Prelude.{Option, None, Some}
 use Rattle.lists.specs.Every.{how_many}
 use Rattle.lists.specs.First.{lowest}
 use Rattle.lists.specs.Numbers.{up_from}
@@ -20,7 +21,7 @@ use Rattle.lists.proofs.Laws.Numbers.{length-up_from}
 use Rattle.stored.specs.Model.{Model, size, is_rep}
 use Rattle.rounds.specs.Colours.{no_colour, colour_at}
 use Rattle.rounds.specs.Round.{reps, Sides, recoloured, round, colours_of, colour_count, equal_counts, dead, stable, again, outcome, round_outcome}
-use Rattle.rounds.specs.Classes.{Open, all_single, open_at, smaller, smallest_from, smallest_open, lowest_of}
+use Rattle.rounds.specs.Classes.{smaller, smallest_from, smallest_open, lowest_of}
 use Rattle.lists.proofs.Laws.Counting.{how_many_some, how_many-map, different_fit, another}
 use Rattle.rounds.proofs.Theorems.Keys.{on_left, reps_below_lem, reps_rep, rep_reps}
 use Rattle.rounds.proofs.Theorems.Alive.{reps_distinct}
@@ -38,15 +39,15 @@ module _ (colours : List ℕ) where
   abbrev in_class : ℕ → ℕ
   in_class k = how_many (eqb k) colours
 
-  abbrev pub Answers : ℕ → ℕ → Open → Type 0
-  Answers i n all_single = (l : ℕ) → i ≤ l → l < i + n → how_many (eqb l) colours < 2
-  Answers i n (open_at k) = Smallest colours i n k
+  abbrev pub Answers : ℕ → ℕ → Option ℕ → Type 0
+  Answers i n None = (l : ℕ) → i ≤ l → l < i + n → how_many (eqb l) colours < 2
+  Answers i n (Some k) = Smallest colours i n k
 
-  smaller_first : (k l : ℕ) → leb (in_class k) (in_class l) ≡ true → smaller colours k (open_at l) ≡ open_at k
+  smaller_first : (k l : ℕ) → leb (in_class k) (in_class l) ≡ true → smaller colours k (Some l) ≡ Some k
   unfolding smaller
   smaller_first k l e = rw (e, smaller)
 
-  smaller_later : (k l : ℕ) → leb (in_class k) (in_class l) ≡ false → smaller colours k (open_at l) ≡ open_at l
+  smaller_later : (k l : ℕ) → leb (in_class k) (in_class l) ≡ false → smaller colours k (Some l) ≡ Some l
   unfolding smaller
   smaller_later k l e = rw (e, smaller)
 
@@ -59,9 +60,9 @@ module _ (colours : List ℕ) where
   from_open k n e = rw (e, smallest_from)
 
   -- a class with one member or none before those that are looked at
-  single_before : (i n : ℕ) (o : Open) → in_class i < 2 → Answers (suc i) n o → Answers i (suc n) o
-  single_before i n all_single h r = λ l u v. by_cases (ℕ_discrete l i) (λ q. rw q h) (λ q. r l (omega arith) (omega arith))
-  single_before i n (open_at k) h r = record {
+  single_before : (i n : ℕ) (o : Option ℕ) → in_class i < 2 → Answers (suc i) n o → Answers i (suc n) o
+  single_before i n None h r = λ l u v. by_cases (ℕ_discrete l i) (λ q. rw q h) (λ q. r l (omega arith) (omega arith))
+  single_before i n (Some k) h r = record {
     from = omega arith;
     below = omega arith;
     two = r.two;
@@ -73,17 +74,17 @@ module _ (colours : List ℕ) where
       not_it l w u = by_cases (ℕ_discrete l i) (λ q. absurd (let z : in_class l ≡ in_class i = ap in_class q in omega arith)) (λ q. omega arith)
 
   -- an open class before them
-  open_before : (i n : ℕ) (o : Open) → 2 ≤ in_class i → Answers (suc i) n o → Answers i (suc n) (smaller colours i o)
-  open_before i n all_single h r = unfold smaller in record {
+  open_before : (i n : ℕ) (o : Option ℕ) → 2 ≤ in_class i → Answers (suc i) n o → Answers i (suc n) (smaller colours i o)
+  open_before i n None h r = unfold smaller in record {
     from = omega arith;
     below = omega arith;
     two = h;
     least = λ l u v w. by_cases (ℕ_discrete l i) (λ q. rw q (omega arith)) (λ q. absurd (let z = r l (omega arith) (omega arith) in omega arith));
     first = λ l u v w. absurd (omega arith);
   }
-  open_before i n (open_at k) h r = go (split (leb (in_class i) (in_class k)))
+  open_before i n (Some k) h r = go (split (leb (in_class i) (in_class k)))
     where
-      go : (leb (in_class i) (in_class k) ≡ true) ⊎ (leb (in_class i) (in_class k) ≡ false) → Answers i (suc n) (smaller colours i (open_at k))
+      go : (leb (in_class i) (in_class k) ≡ true) ⊎ (leb (in_class i) (in_class k) ≡ false) → Answers i (suc n) (smaller colours i (Some k))
       go (inl e) = rw (smaller_first i k e) (record {
         from = omega arith;
         below = omega arith;
@@ -136,20 +137,20 @@ module _ (m : Model) (colours : List ℕ) where
     answers = smallest_from_lem (colours_of m colours) 0 (length (colours_of m colours))
 
     -- no class has two members
-    pub single_all : smallest_open m colours ≡ all_single → (k : ℕ) → how_many (eqb k) (colours_of m colours) < 2
+    pub single_all : smallest_open m colours ≡ None → (k : ℕ) → how_many (eqb k) (colours_of m colours) < 2
     single_all e k =
-        let r : Answers (colours_of m colours) 0 (length (colours_of m colours)) all_single = rw e at answers in
+        let r : Answers (colours_of m colours) 0 (length (colours_of m colours)) None = rw e at answers in
         by_cases (dec_le 2 (how_many (eqb k) (colours_of m colours))) (λ h. r k zero-le (omega (arith, within k h))) (λ h. omega arith)
 
     -- no class with two members is smaller, and those as small have no lower colour
-    pub open_least : (k : ℕ) → smallest_open m colours ≡ open_at k → (l : ℕ) → 2 ≤ how_many (eqb l) (colours_of m colours) → how_many (eqb k) (colours_of m colours) ≤ how_many (eqb l) (colours_of m colours)
+    pub open_least : (k : ℕ) → smallest_open m colours ≡ Some k → (l : ℕ) → 2 ≤ how_many (eqb l) (colours_of m colours) → how_many (eqb k) (colours_of m colours) ≤ how_many (eqb l) (colours_of m colours)
     open_least k e l h = let r : Smallest (colours_of m colours) 0 (length (colours_of m colours)) k = rw e at answers in r.least l zero-le (omega (arith, within l h)) h
 
-    pub open_first : (k : ℕ) → smallest_open m colours ≡ open_at k → (l : ℕ) → l < k → 2 ≤ how_many (eqb l) (colours_of m colours) → how_many (eqb k) (colours_of m colours) < how_many (eqb l) (colours_of m colours)
+    pub open_first : (k : ℕ) → smallest_open m colours ≡ Some k → (l : ℕ) → l < k → 2 ≤ how_many (eqb l) (colours_of m colours) → how_many (eqb k) (colours_of m colours) < how_many (eqb l) (colours_of m colours)
     open_first k e l u h = let r : Smallest (colours_of m colours) 0 (length (colours_of m colours)) k = rw e at answers in r.first l zero-le u h
 
   -- an open class has two members or more
-  pub open_two : (k : ℕ) → smallest_open m colours ≡ open_at k → 2 ≤ how_many (eqb k) (colours_of m colours)
+  pub open_two : (k : ℕ) → smallest_open m colours ≡ Some k → 2 ≤ how_many (eqb k) (colours_of m colours)
   unfolding smallest_open
   open_two k e = let r : Smallest (colours_of m colours) 0 (length (colours_of m colours)) k = rw e at (smallest_from_lem (colours_of m colours) 0 (length (colours_of m colours))) in r.two
 
@@ -330,10 +331,10 @@ module _ (a b : Model) (c d : Sides) (is-stable : round_outcome a b c ≡ stable
   pub stable_low : (k : ℕ) → Memᴰ k (colours_of a d.left) → k < length (reps a)
   stable_low = gapless_low a d.left (stable_gapless a b c d is-stable)
 
-  pub stable_single : smallest_open a d.left ≡ all_single → (k : ℕ) → members k < 2
+  pub stable_single : smallest_open a d.left ≡ None → (k : ℕ) → members k < 2
   stable_single = single_all a d.left stable_low
 
-  module _ (k : ℕ) (is_open : smallest_open a d.left ≡ open_at k) where
+  module _ (k : ℕ) (is_open : smallest_open a d.left ≡ Some k) where
     pub stable_two : 2 ≤ members k
     stable_two = open_two a d.left k is_open
 

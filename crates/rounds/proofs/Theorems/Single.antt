@@ -11,6 +11,7 @@ use native.Mathlib.Decide.{dec_le}
 use borrow.Author.Tests.{eqb-true, eqb-false, eq-eqb}
 use lib.Dec.{eqb}
 use lib.ListN.{length, length-map}
+use Rattle.std.specs.Prelude.{None, Some}
 use Rattle.lists.specs.Every.{how_many}
 use Rattle.lists.specs.First.{lowest}
 use Rattle.lists.specs.Numbers.{up_from}
@@ -20,7 +21,7 @@ use Rattle.lists.proofs.Laws.Numbers.{length-up_from}
 use Rattle.stored.specs.Model.{Model, size}
 use Rattle.rounds.specs.Colours.{colour_at}
 use Rattle.rounds.specs.Round.{reps, Sides, recoloured, new_colour, palette, round, colours_of, colour_count, equal_counts, dead, stable, again, round_outcome}
-use Rattle.rounds.specs.Classes.{all_single, open_at, smallest_open, lowest_of}
+use Rattle.rounds.specs.Classes.{smallest_open, lowest_of}
 use Rattle.lists.proofs.Laws.Counting.{how_many_yes, how_many_no, how_many_some, how_many_mem, how_many-map, different_fit}
 use Rattle.rounds.proofs.Theorems.Keys.{on_left, on_right}
 use Rattle.rounds.proofs.Theorems.Classes.{Answers, smallest_from_lem, class_some, open_two, lowest_rep, lowest_coloured, outcome_stable, outcome_again, when_stable, when_again}
@@ -49,14 +50,14 @@ lowest_reached p n x l h = (below, lowest_passes p 0 n (omega (arith, below)))
     below = by_cases (dec_le (suc (lowest p 0 n)) n) (λ k. k) (λ k. clash h (lowest_below p 0 n x zero-le (omega arith)))
 
 module _ (a : Model) (left : List ℕ) where
-  pub single_few : smallest_open a left ≡ all_single → (k : ℕ) → k < length (colours_of a left) → how_many (eqb k) (colours_of a left) < 2
+  pub single_few : smallest_open a left ≡ None → (k : ℕ) → k < length (colours_of a left) → how_many (eqb k) (colours_of a left) < 2
   unfolding smallest_open
   single_few e k l =
-      let r : Answers (colours_of a left) 0 (length (colours_of a left)) all_single = rw e at (smallest_from_lem (colours_of a left) 0 (length (colours_of a left))) in
+      let r : Answers (colours_of a left) 0 (length (colours_of a left)) None = rw e at (smallest_from_lem (colours_of a left) 0 (length (colours_of a left))) in
       r k zero-le (omega arith)
 
   -- the lowest representative of an open class
-  pub open_lowest : (k : ℕ) → smallest_open a left ≡ open_at k → Memᴰ (lowest_of a left k) (reps a) × (colour_at left (lowest_of a left k) ≡ k)
+  pub open_lowest : (k : ℕ) → smallest_open a left ≡ Some k → Memᴰ (lowest_of a left k) (reps a) × (colour_at left (lowest_of a left k) ≡ k)
   open_lowest k e =
       let o = colour_of a left k (class_some a left k (omega (arith, open_two a left k e))) in
       (lowest_rep a left k o.0 o.1 (sym o.2), lowest_coloured a left k o.0 o.1 (sym o.2))
@@ -107,7 +108,7 @@ few_apart m colours few x y i j e = go (split (eqb x y))
         let two = how_many_two (λ (z : ℕ). eqb k (colour_at colours z)) (reps m) x y i j (eqb-false x y q) (eq-eqb k k refl) (eq-eqb k (colour_at colours y) e) in
         absurd (omega (arith, few x i, two, how_many-map (eqb k) (colour_at colours) (reps m)))
 
-module _ (a b : Model) (c : Sides) (equal : equal_counts a b (round a b c) ≡ true) (single : smallest_open a (round a b c).left ≡ all_single) where
+module _ (a b : Model) (c : Sides) (equal : equal_counts a b (round a b c) ≡ true) (single : smallest_open a (round a b c).left ≡ None) where
   left_few : (x : ℕ) → Memᴰ x (reps a) → how_many (eqb (colour_at (round a b c).left x)) (colours_of a (round a b c).left) < 2
   left_few x m = single_few a (round a b c).left single _ (omega (arith, colour_below a b c equal on_left x m, colours_fit a (round a b c).left))
 

@@ -1,25 +1,35 @@
 -- The laws of relations that were read: they are well formed, and in a canonical model the rows through the roots are the rows. Assumes nothing.
 use Prim.Native.Nat.{ℕ, ◌<◌}
 use mathlib.Core.Path.{◌≡◌, refl, sym, ◌∙◌, ap₂}
-use mathlib.Core.Bool.{true}
+use mathlib.Core.Bool.{Bool, true}
 use mathlib.Core.List.{List, [], ◌∷◌, map, Memᴰ}
 use native.Mathlib.Omega.{arith}
 use lib.ListN.{length, get_or}
 use Rattle.lists.specs.Every.{all}
+use Rattle.lists.specs.Order.{ascending}
 use Rattle.lists.proofs.Laws.Every.{all_mem, get_d_mem, get_d_inside}
 use Rattle.stored.specs.declared.layout.Layout.{Layout}
 use Rattle.stored.specs.Model.{Model, is_rep_in, is_rep, no_relation, relation_at}
 use Rattle.stored.specs.Canonical.{relation_canonical, canonical}
 use Rattle.stored.specs.Reading.{Reads, model_of}
-use Rattle.stored.proofs.Laws.WellFormed.{RelationFormed}
+use Rattle.stored.proofs.Laws.WellFormed.{WellFormed, RelationFormed}
 use Rattle.stored.proofs.Laws.Reading.{reads_formed, relations_is}
 use Rattle.stored.proofs.Laws.Canonical.{relation_canonical_lem, all_canonical}
 use Rattle.stored.proofs.Laws.Representatives.{rep_below, rep_root}
 use Rattle.rows.specs.Rows.{through}
 use Rattle.rows.proofs.Theorems.Through.{through_self}
 
+-- relation k of a model that is well formed
+module _ (m : Model) (formed : WellFormed m) (k : ℕ) (h : k < length m.relations) where
+  pub formed_at : RelationFormed m.sizes (relation_at m k)
+  formed_at = formed.each_formed _ (get_d_mem m.relations k no_relation h)
+
+  -- its rows as they are handed on
+  pub rows_ascend : (rows : List (List ℕ)) → rows ≡ (relation_at m k).rows → ascending rows ≡ true
+  rows_ascend rows e = rw e formed_at.rows_ascend
+
 pub relation_formed : (s : List ℕ) (l : Layout) → Reads s l → (k : ℕ) → k < l.relations → RelationFormed (model_of s).sizes (relation_at (model_of s) k)
-relation_formed s l reads k h = (reads_formed s l reads).each_formed _ (get_d_mem (model_of s).relations k no_relation (omega (arith, relations_is s l reads)))
+relation_formed s l reads k h = formed_at (model_of s) (reads_formed s l reads) k (omega (arith, relations_is s l reads))
 
 -- a function that leaves the members of a list as they are
 map_self : {A : Type 0} (f : A → A) (xs : List A) → ((x : A) → Memᴰ x xs → f x ≡ x) → map f xs ≡ xs
@@ -36,3 +46,7 @@ canonical_rows m h k l =
     (λ row n.
     let f = all_mem (all (is_rep m)) (relation_at m k).rows (sym (relation_canonical_lem m (relation_at m k)) ∙ e) row n in
     through_self m.roots row (λ x i. rep_self m.roots x (all_mem (is_rep m) row f x i)))
+
+-- relation k as it is handed on, with the roots and whether the model is canonical
+pub plain_rows : (m : Model) (k : ℕ) → k < length m.relations → (rows : List (List ℕ)) → rows ≡ (relation_at m k).rows → (roots : List ℕ) → roots ≡ m.roots → (plain : Bool) → plain ≡ canonical m → plain ≡ true → map (through roots) rows ≡ rows
+plain_rows m k h rows e roots w plain q p = rw (e, w) (canonical_rows m (sym q ∙ p) k h)

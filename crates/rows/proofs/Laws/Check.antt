@@ -8,6 +8,7 @@ use native.Mathlib.Omega.{arith}
 use borrow.Author.Tests.{lt-ltb, le-ltb, ltb-true, ltb-false, eq-eqb, ne_eqb, eqb-true}
 use lib.Dec.{eqb, ltb}
 use lib.ListN.{length, get_or, take, length-replicate}
+use Rattle.std.proofs.Common.{Ok}
 use Rattle.lists.specs.First.{lowest}
 use Rattle.lists.proofs.Laws.Tests.{split, and_left, and_right}
 use Rattle.stored.specs.declared.refusal.Refusal.{Refusal}
@@ -17,7 +18,7 @@ use Rattle.stored.specs.Signature.{signature, same_signature}
 use Rattle.rows.specs.Rows.{first_unkept}
 use Rattle.rows.specs.Pairs.{pair_count, Given, images, give_from}
 use Rattle.rows.specs.Pairs as pairs
-use Rattle.rows.specs.declared.answer.Answer.TheVariants as answer
+use Rattle.rows.specs.declared.answer.Ended.{Ended}
 use Rattle.rows.specs.Answer.{accepted, refused, answer_of}
 use Rattle.rows.specs.Files.{with_two}
 use Rattle.rows.specs.Check.{is_missing, first_missing, judged, judged_if, blank, check_models, check_files}
@@ -76,9 +77,9 @@ module _ (a b : Model) (f : List ℕ) where
     unfolding judged
     judged_accepted h = rw (le-ltb (first_missing a f) (size a) g, judged, le-ltb (first_unkept a b f) (length a.relations) h)
 
-  -- where they are accepted, they are the map
-  pub judged_map : answer_of (judged a b f) ≡ answer.Accepted → judged a b f ≡ accepted f
-  judged_map h = by_tests (split (ltb (first_missing a f) (size a))) (split (ltb (first_unkept a b f) (length a.relations)))
+  -- where they are not refused, they are the map
+  pub judged_map : (x : Ended) → Ok x ≡ answer_of (judged a b f) → judged a b f ≡ accepted f
+  judged_map x h = by_tests (split (ltb (first_missing a f) (size a))) (split (ltb (first_unkept a b f) (length a.relations)))
     where
       not_refused : (r : Refusal) → judged a b f ≡ refused r → judged a b f ≡ accepted f
       not_refused r e = let z = answer_refused (judged a b f) r e in let y : ◌≡◌ {A = ℕ} 0 1 = cc in absurd (omega arith)

@@ -1,22 +1,18 @@
 -- The laws of the files of a call: going on with a file that was read, refusing one that was not, and the same of two files. Assumes nothing.
 use Prim.Native.Nat.{ℕ}
-use mathlib.Core.Path.{◌≡◌, refl, sym, ◌∙◌, ap}
+use mathlib.Core.Path.{◌≡◌, refl, ◌∙◌, ap}
 use mathlib.Core.List.{List}
 use native.Mathlib.Omega.{arith}
+use Rattle.std.proofs.Common.{Result, Ok, Err}
 use Rattle.stored.specs.declared.refusal.Fault.{Fault}
 use Rattle.stored.specs.declared.refusal.Refusal.{Refusal}
 use Rattle.stored.specs.declared.refusal.Refusal.TheVariants.{Malformed}
 use Rattle.stored.specs.declared.layout.Layout.{Layout}
-use Rattle.stored.specs.declared.read.Answer.TheVariants as answer
-use Rattle.stored.specs.declared.read.Reading.{Reading}
 use Rattle.stored.specs.Model.{Model}
 use Rattle.stored.specs.Parse.{Parsed, model, fault, parse}
-use Rattle.stored.specs.Layout.{layout_of}
 use Rattle.stored.specs.Reading.{reading_of, model_of, Reads}
-use Rattle.stored.proofs.Laws.Reading.{reading_reads, model_reads, reading_faults}
-use Rattle.rows.specs.declared.files.Verdict.TheVariants as verdict
-use Rattle.rows.specs.declared.files.Two.{Two}
-use Rattle.rows.specs.Files.{with_model, with_two, refused_two, both_read}
+use Rattle.stored.proofs.Laws.Reading.{reading_reads, reading_faults}
+use Rattle.rows.specs.Files.{with_model, with_two, model_read, two_read}
 
 -- one file, the k-th of a call
 module _ {A : Type 0} (k : ℕ) (refuse : Refusal → A) (go : Model → A) (s : List ℕ) where
@@ -32,12 +28,11 @@ module _ {A : Type 0} (k : ℕ) (refuse : Refusal → A) (go : Model → A) (s :
   with_model_fault f e = rw (e, with_model)
 
   -- by what reading it answers
-  module _ (r : Reading) (e : r ≡ reading_of (parse s)) where
-    pub with_model_answered : r.answer ≡ answer.Model → with_model k refuse go s ≡ go (model_of s)
-    with_model_answered h = with_model_read r.layout (reading_reads s r e h)
+  pub with_model_answered : (l : Layout) → Ok l ≡ reading_of (parse s) → with_model k refuse go s ≡ go (model_of s)
+  with_model_answered l e = with_model_read l (reading_reads s l e)
 
-    pub with_model_refused : (f : Fault) → r.answer ≡ answer.Fault f → with_model k refuse go s ≡ refuse (Malformed k f)
-    with_model_refused f h = with_model_fault f (reading_faults s r f e h)
+  pub with_model_refused : (f : Fault) → Err f ≡ reading_of (parse s) → with_model k refuse go s ≡ refuse (Malformed k f)
+  with_model_refused f e = with_model_fault f (reading_faults s f e)
 
 -- two files
 module _ {A : Type 0} (refuse : Refusal → A) (go : Model → Model → A) (s t : List ℕ) where
@@ -53,50 +48,61 @@ module _ {A : Type 0} (refuse : Refusal → A) (go : Model → Model → A) (s t
   pub with_two_read : (l k : Layout) → Reads s l → Reads t k → with_two refuse go s t ≡ go (model_of s) (model_of t)
   with_two_read l k p q = with_models (model_of s) (model_of t) p.accepted q.accepted
 
--- what reading two files answers: both hold models, with their layouts, or a refusal that every call passes on
-pub record BothRead (s t : List ℕ) (r : Two) : Type 0 where
-  pub first_read : Reads s r.first
-  pub second_read : Reads t r.second
+-- a file read, the k-th of a call
+module _ (k : ℕ) (s : List ℕ) where
+  pub read_was : (m : Model) → parse s ≡ model m → model_read k s ≡ Ok m
+  unfolding model_read
+  read_was m p = with_model_lem k _ _ s m p
 
-module _ (s t : List ℕ) (r : Two) (e : r ≡ with_two refused_two both_read s t) where
-  was_both : (a b : Model) → r ≡ both_read a b → (r.verdict ≡ verdict.Models) × (r.first ≡ layout_of a) × (r.second ≡ layout_of b)
-  unfolding both_read
-  was_both a b w = (ap (λ (x : Two). x.verdict) w, ap (λ (x : Two). x.first) w, ap (λ (x : Two). x.second) w)
+  pub fault_was : (f : Fault) → parse s ≡ fault f → model_read k s ≡ Err (Malformed k f)
+  unfolding model_read
+  fault_was f p = with_model_fault k _ _ s f p
 
-  was_refused : (x : Refusal) → r ≡ refused_two x → r.verdict ≡ verdict.Refused x
-  unfolding refused_two
-  was_refused x w = ap (λ (y : Two). y.verdict) w
-
-  no_refusal : {X : Type 0} (x : Refusal) → r.verdict ≡ verdict.Models → r.verdict ≡ verdict.Refused x → X
-  no_refusal x h k = let z : ◌≡◌ {A = ℕ} 0 1 = cc in absurd (omega arith)
-
-  pub two_read : r.verdict ≡ verdict.Models → BothRead s t r
-  two_read h = by_parse (parse s) refl (parse t) refl
-    where
-      by_parse : (p : Parsed) → parse s ≡ p → (q : Parsed) → parse t ≡ q → BothRead s t r
-      by_parse (fault f) p k q = no_refusal _ h (was_refused _ (e ∙ first_fault refused_two both_read s t f p))
-      by_parse (model a) p (fault f) q = no_refusal _ h (was_refused _ (e ∙ second_fault refused_two both_read s t a f p q))
-      by_parse (model a) p (model b) q =
-          let w = was_both a b (e ∙ with_models refused_two both_read s t a b p q) in
-          record { first_read = rw w.1 (model_reads s a p); second_read = rw w.2 (model_reads t b q) }
-
-  module _ {A : Type 0} (refuse : Refusal → A) (go : Model → Model → A) where
-    pub two_go_on : r.verdict ≡ verdict.Models → with_two refuse go s t ≡ go (model_of s) (model_of t)
-    two_go_on h = let k = two_read h in with_two_read refuse go s t r.first r.second k.first_read k.second_read
-
-    pub two_refused : (x : Refusal) → r.verdict ≡ verdict.Refused x → with_two refuse go s t ≡ refuse x
-    two_refused x h = by_parse (parse s) refl (parse t) refl
+  module _ {A : Type 0} (refuse : Refusal → A) (go : Model → A) where
+    pub model_goes_on : (m : Model) → model_read k s ≡ Ok m → with_model k refuse go s ≡ go m
+    model_goes_on m e = by_parse (parse s) refl
       where
-        by_parse : (p : Parsed) → parse s ≡ p → (q : Parsed) → parse t ≡ q → with_two refuse go s t ≡ refuse x
-        by_parse (fault f) p k q =
-            let w = was_refused _ (e ∙ first_fault refused_two both_read s t f p) in
-            let v : Malformed 1 f ≡ x = cc in first_fault refuse go s t f p ∙ ap refuse v
-        by_parse (model a) p (fault f) q =
-            let w = was_refused _ (e ∙ second_fault refused_two both_read s t a f p q) in
-            let v : Malformed 2 f ≡ x = cc in second_fault refuse go s t a f p q ∙ ap refuse v
-        by_parse (model a) p (model b) q = no_refusal x (was_both a b (e ∙ with_models refused_two both_read s t a b p q)).0 h
+        by_parse : (p : Parsed) → parse s ≡ p → with_model k refuse go s ≡ go m
+        by_parse (model n) p = let w = read_was n p in let v : n ≡ m = cc in with_model_lem k refuse go s n p ∙ ap go v
+        by_parse (fault f) p = let w = fault_was f p in let z : ◌≡◌ {A = ℕ} 0 1 = cc in absurd (omega arith)
 
--- two files that were read, one after the other
-pub both_read_lem : (s t : List ℕ) (l k : Layout) → Reads s l → Reads t k → record { verdict = verdict.Models; first = l; second = k } ≡ with_two refused_two both_read s t
-unfolding both_read
-both_read_lem s t l k p q = rw (p.there, q.there) (sym (with_two_read refused_two both_read s t l k p q))
+    pub model_refused : (x : Refusal) → model_read k s ≡ Err x → with_model k refuse go s ≡ refuse x
+    model_refused x e = by_parse (parse s) refl
+      where
+        by_parse : (p : Parsed) → parse s ≡ p → with_model k refuse go s ≡ refuse x
+        by_parse (model m) p = let w = read_was m p in let z : ◌≡◌ {A = ℕ} 0 1 = cc in absurd (omega arith)
+        by_parse (fault f) p = let w = fault_was f p in let v : Malformed k f ≡ x = cc in with_model_fault k refuse go s f p ∙ ap refuse v
+
+-- two files read, one after the other
+module _ (s t : List ℕ) where
+  pub first_refused : (x : Refusal) → model_read 1 s ≡ Err x → two_read s t ≡ Err x
+  unfolding two_read
+  first_refused x e = model_refused 1 s _ _ x e
+
+  module _ (a : Model) (e : model_read 1 s ≡ Ok a) where
+    pub second_refused : (x : Refusal) → model_read 2 t ≡ Err x → two_read s t ≡ Err x
+    unfolding two_read
+    second_refused x f = model_goes_on 1 s _ _ a e ∙ model_refused 2 t _ _ x f
+
+    pub both_read : (b : Model) → model_read 2 t ≡ Ok b → two_read s t ≡ Ok (a, b)
+    unfolding two_read
+    both_read b f = model_goes_on 1 s _ _ a e ∙ model_goes_on 2 t _ _ b f
+
+  -- what a call that goes on with both answers
+  module _ {A : Type 0} (refuse : Refusal → A) (go : Model → Model → A) where
+    two_by : (q : Result Model Refusal) → model_read 1 s ≡ q → (p : Result Model Refusal) → model_read 2 t ≡ p → (o : A) → ((x : Refusal) → two_read s t ≡ Err x → refuse x ≡ o) → ((a b : Model) → two_read s t ≡ Ok (a, b) → go a b ≡ o) → with_two refuse go s t ≡ o
+    two_by (Err x) e p f o bad good = model_refused 1 s refuse _ x e ∙ bad x (first_refused x e)
+    two_by (Ok a) e (Err x) f o bad good = model_goes_on 1 s refuse _ a e ∙ model_refused 2 t refuse _ x f ∙ bad x (second_refused a e x f)
+    two_by (Ok a) e (Ok b) f o bad good = model_goes_on 1 s refuse _ a e ∙ model_goes_on 2 t refuse _ b f ∙ good a b (both_read a e b f)
+
+    pub two_go_on : (a b : Model) → two_read s t ≡ Ok (a, b) → with_two refuse go s t ≡ go a b
+    two_go_on a b e =
+        two_by (model_read 1 s) refl (model_read 2 t) refl (go a b)
+        (λ x w. let z : ◌≡◌ {A = ℕ} 0 1 = cc in absurd (omega arith))
+        (λ c d w. let v : (c, d) ≡ (a, b) = cc in ap (λ (p : Model × Model). go p.0 p.1) v)
+
+    pub two_refused : (x : Refusal) → two_read s t ≡ Err x → with_two refuse go s t ≡ refuse x
+    two_refused x e =
+        two_by (model_read 1 s) refl (model_read 2 t) refl (refuse x)
+        (λ y w. let v : y ≡ x = cc in ap refuse v)
+        (λ a b w. let z : ◌≡◌ {A = ℕ} 0 1 = cc in absurd (omega arith))

@@ -15,6 +15,7 @@ use Rattle.stored.specs.Limits.{max_types, max_elements}
 use Rattle.stored.specs.Model.{Model, size}
 use Rattle.stored.specs.Reading.{Reads, model_of}
 use Rattle.stored.proofs.Laws.Reading.{reads_formed, size_is, types_part, roots_part}
+use Rattle.stored.proofs.Laws.WellFormed.{WellFormed}
 use Rattle.rows.specs.Maps.{is_map}
 
 -- the types, as `&s[3..3 + types]`, and the roots, as `&s[roots..roots + size]`
@@ -52,6 +53,25 @@ module _ (s : List ℕ) (l : Layout) (reads : Reads s l) where
 
   pub has_room : (room : ℕ) → l.size ≤ room → size (model_of s) ≤ room
   has_room room h = omega (arith, size_is s l reads)
+
+-- room for as many bytes as a file has elements, which were counted
+module _ {n m : ℕ} (e : n ≡ m) (room : ℕ) where
+  pub cramped : room < n → room < m
+  cramped h = omega arith
+
+  pub roomy : n ≤ room → m ≤ room
+  roomy h = omega arith
+
+-- the roots of a model that is well formed, as they are handed on
+module _ {m : Model} (formed : WellFormed m) {roots : List ℕ} (e : roots ≡ m.roots) where
+  pub roots_counted : length roots ≡ size m
+  roots_counted = ap length e ∙ formed.roots_length
+
+  pub roots_fit : (room : ℕ) → size m ≤ room → length roots ≤ room
+  roots_fit room h = omega (arith, roots_counted)
+
+  pub few_roots : length roots ≤ max_elements
+  few_roots = roots_fit max_elements formed.few_elements
 
 -- a map has an entry for each element of the source
 module _ (a b : Model) (f : List ℕ) (h : is_map a b f ≡ true) where

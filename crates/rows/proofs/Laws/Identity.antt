@@ -7,14 +7,12 @@ use borrow.Author.Tests.{lt-ltb, le-ltb}
 use lib.ListN.{length}
 use Rattle.lists.specs.Numbers.{up_from}
 use Rattle.lists.specs.Part.{over}
-use Rattle.stored.specs.declared.layout.Layout.{Layout}
 use Rattle.stored.specs.declared.refusal.Refusal.TheVariants.{NoRoom}
 use Rattle.stored.specs.Model.{Model, size, is_rep_in}
-use Rattle.stored.specs.Reading.{Reads, model_of}
+use Rattle.stored.proofs.Laws.WellFormed.{WellFormed}
 use Rattle.rows.specs.Maps.{identity_entry, identity_of}
 use Rattle.rows.specs.Answer.{accepted, refused}
 use Rattle.rows.specs.Identity.{identity_model}
-use Rattle.rows.proofs.Laws.Given.{roots_in, roots_between, roots_count}
 
 module _ (roots : List ℕ) (x : ℕ) where
   pub identity_rep : is_rep_in roots x ≡ true → identity_entry roots x ≡ x
@@ -26,12 +24,12 @@ module _ (roots : List ℕ) (x : ℕ) where
   identity_alias h = rw (h, identity_entry)
 
 -- all entries, by the roots as they are handed on
-module _ (s : List ℕ) (l : Layout) (reads : Reads s l) where
-  identity_entries : map (identity_entry (roots_in s l)) (up_from 0 (length (roots_in s l))) ≡ identity_of (model_of s)
+module _ {m : Model} (formed : WellFormed m) {roots : List ℕ} (e : roots ≡ m.roots) where
+  identity_entries : map (identity_entry roots) (up_from 0 (length roots)) ≡ identity_of m
   unfolding identity_of
-  identity_entries = rw (roots_count s l reads, roots_between s l reads)
+  identity_entries = rw (e, formed.roots_length)
 
-  pub identity_written : (new old : List ℕ) → new ≡ over (map (identity_entry (roots_in s l)) (up_from 0 (length (roots_in s l)))) old → new ≡ over (identity_of (model_of s)) old
+  pub identity_written : (new old : List ℕ) → new ≡ over (map (identity_entry roots) (up_from 0 (length roots))) old → new ≡ over (identity_of m) old
   identity_written new old w = w ∙ ap (λ (x : List ℕ). over x old) identity_entries
 
 -- the outcome

@@ -10,15 +10,13 @@ use Rattle.lists.specs.Every.{all}
 use Rattle.lists.specs.First.{first_at}
 use Rattle.lists.specs.Numbers.{up_from}
 use Rattle.lists.specs.Part.{over}
-use Rattle.stored.specs.declared.layout.Layout.{Layout}
 use Rattle.stored.specs.declared.refusal.Refusal.TheVariants.{NoRoom, SignaturesDiffer, NotAMap}
 use Rattle.stored.specs.Model.{Model, size, is_rep_in}
 use Rattle.stored.specs.Signature.{signature, same_signature}
-use Rattle.stored.specs.Reading.{Reads, model_of}
+use Rattle.stored.proofs.Laws.WellFormed.{WellFormed}
 use Rattle.rows.specs.Maps.{is_map, alone, one_to_one, reached, onto, same_counts, invertible, inverse_entry, inverse_of}
 use Rattle.rows.specs.Answer.{accepted, none, refused}
 use Rattle.rows.specs.Inverse.{inverse_models}
-use Rattle.rows.proofs.Laws.Given.{roots_in, roots_between, roots_count}
 
 -- one to one: the entry y of an element x
 module _ (f : List ℕ) (x y : ℕ) (e : get_or f x 255 ≡ y) where
@@ -60,16 +58,16 @@ module _ (roots f : List ℕ) (y : ℕ) where
     inverse_rep = rw (h, inverse_entry)
 
 -- all elements of the target, by its roots as they are handed on
-module _ (t : List ℕ) (l : Layout) (reads : Reads t l) (f : List ℕ) where
-  pub onto_handed : all (reached (roots_in t l) f) (up_from 0 (length (roots_in t l))) ≡ onto (model_of t) f
+module _ {m : Model} (formed : WellFormed m) {roots : List ℕ} (e : roots ≡ m.roots) (f : List ℕ) where
+  pub onto_handed : all (reached roots f) (up_from 0 (length roots)) ≡ onto m f
   unfolding onto
-  onto_handed = rw (roots_count t l reads, roots_between t l reads)
+  onto_handed = rw (e, formed.roots_length)
 
-  inverse_entries : map (inverse_entry (roots_in t l) f) (up_from 0 (length (roots_in t l))) ≡ inverse_of (model_of t) f
+  inverse_entries : map (inverse_entry roots f) (up_from 0 (length roots)) ≡ inverse_of m f
   unfolding inverse_of
-  inverse_entries = rw (roots_count t l reads, roots_between t l reads)
+  inverse_entries = rw (e, formed.roots_length)
 
-  pub inverse_written : (new old : List ℕ) → new ≡ over (map (inverse_entry (roots_in t l) f) (up_from 0 (length (roots_in t l)))) old → new ≡ over (inverse_of (model_of t) f) old
+  pub inverse_written : (new old : List ℕ) → new ≡ over (map (inverse_entry roots f) (up_from 0 (length roots))) old → new ≡ over (inverse_of m f) old
   inverse_written new old w = w ∙ ap (λ (x : List ℕ). over x old) inverse_entries
 
 -- whether there is an inverse

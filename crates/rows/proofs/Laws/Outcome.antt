@@ -4,10 +4,11 @@ use mathlib.Core.Path.{◌≡◌, sym, ◌∙◌, ap}
 use mathlib.Core.Bool.{Bool, true, false, not}
 use mathlib.Core.List.{List}
 use borrow.Author.Tests.{not-true, not-false}
+use Rattle.std.proofs.Common.{Ok, Err}
 use Rattle.lists.specs.Part.{over}
 use Rattle.stored.specs.declared.refusal.Refusal.{Refusal}
-use Rattle.rows.specs.declared.answer.Answer.{Answer}
-use Rattle.rows.specs.declared.answer.Answer.TheVariants as answer
+use Rattle.rows.specs.Answer.{Answer}
+use Rattle.rows.specs.declared.answer.Ended.TheVariants as ended
 use Rattle.rows.specs.Answer.{numbers, Outcome, accepted, none, refused, answer_of, written}
 use Rattle.rows.proofs.Laws.Answer.{answer_accepted, written_accepted, answer_none, written_none, answer_refused, written_refused}
 
@@ -16,13 +17,17 @@ abbrev pub Answers : Outcome → Answer → List ℕ → List ℕ → Type 0
 Answers o r old new = (r ≡ answer_of o) × (new ≡ written o old)
 
 module _ (o : Outcome) (old : List ℕ) where
-  pub refuses : (r : Refusal) → o ≡ refused r → Answers o (answer.Refused r) old old
+  pub refuses : (r : Refusal) → o ≡ refused r → Answers o (Err r) old old
   refuses r e = (sym (answer_refused o r e), sym (written_refused o r e old))
 
-  pub gives_none : o ≡ none → Answers o answer.None old old
+  -- as another call was refused
+  pub refuses_as : (a : Answer) (r : Refusal) → a ≡ Err r → o ≡ refused r → Answers o a old old
+  refuses_as a r q e = (q ∙ sym (answer_refused o r e), sym (written_refused o r e old))
+
+  pub gives_none : o ≡ none → Answers o (Ok ended.None) old old
   gives_none e = (sym (answer_none o e), sym (written_none o e old))
 
-  pub accepts : (f new : List ℕ) → o ≡ accepted f → new ≡ over f old → Answers o answer.Accepted old new
+  pub accepts : (f new : List ℕ) → o ≡ accepted f → new ≡ over f old → Answers o (Ok ended.Accepted) old new
   accepts f new e w = (sym (answer_accepted o f e), w ∙ sym (written_accepted o f e old))
 
   -- the outcome of another call that is made

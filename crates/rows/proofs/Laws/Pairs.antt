@@ -8,13 +8,13 @@ use native.Mathlib.Omega.{arith}
 use borrow.Author.Tests.{lt-ltb, le-ltb, ltb-true, ltb-false, eq-eqb, ne_eqb}
 use lib.Dec.{eqb, ltb}
 use lib.ListN.{length, get_or, set}
+use Rattle.std.proofs.Common.{Ok, Err}
 use Rattle.lists.specs.Numbers.{sum}
 use Rattle.lists.proofs.Laws.Tests.{split}
 use Rattle.stored.specs.declared.refusal.Refusal.{Refusal}
 use Rattle.stored.specs.declared.refusal.Refusal.TheVariants.{UnknownElement, TypesDiffer, ConflictingImages}
 use Rattle.stored.specs.Types.{type_in}
 use Rattle.stored.specs.Model.{Model, root_of}
-use Rattle.rows.specs.declared.pairs.Pair.TheVariants as pair
 use Rattle.rows.specs.Pairs.{pair_count, left_at, right_at, pair_in, pair_at, images, refused, conflicts, give_from, given_by}
 
 -- both elements of a pair stand in the list
@@ -23,29 +23,29 @@ pair_inside pairs i h = omega arith
 
 -- one pair
 module _ (sizes sizes' pairs : List ℕ) (i : ℕ) where
-  pub pair_left_unknown : sum sizes ≤ left_at pairs i → pair_in sizes sizes' pairs i ≡ pair.Bad (UnknownElement i 1)
+  pub pair_left_unknown : sum sizes ≤ left_at pairs i → pair_in sizes sizes' pairs i ≡ Err (UnknownElement i 1)
   unfolding pair_in
   pair_left_unknown h = rw (le-ltb (left_at pairs i) (sum sizes) h, pair_in)
 
   module _ (l : left_at pairs i < sum sizes) where
-    pub pair_right_unknown : sum sizes' ≤ right_at pairs i → pair_in sizes sizes' pairs i ≡ pair.Bad (UnknownElement i 2)
+    pub pair_right_unknown : sum sizes' ≤ right_at pairs i → pair_in sizes sizes' pairs i ≡ Err (UnknownElement i 2)
     unfolding pair_in
     pair_right_unknown h = rw (lt-ltb (left_at pairs i) (sum sizes) l, pair_in, le-ltb (right_at pairs i) (sum sizes') h)
 
     module _ (r : right_at pairs i < sum sizes') where
-      pub pair_types_differ : (type_in sizes (left_at pairs i) ≡ type_in sizes' (right_at pairs i) → ⊥) → pair_in sizes sizes' pairs i ≡ pair.Bad (TypesDiffer i)
+      pub pair_types_differ : (type_in sizes (left_at pairs i) ≡ type_in sizes' (right_at pairs i) → ⊥) → pair_in sizes sizes' pairs i ≡ Err (TypesDiffer i)
       unfolding pair_in
       pair_types_differ h = rw (lt-ltb (left_at pairs i) (sum sizes) l, pair_in, lt-ltb (right_at pairs i) (sum sizes') r, ne_eqb (type_in sizes (left_at pairs i)) (type_in sizes' (right_at pairs i)) h)
 
-      pub pair_good : type_in sizes (left_at pairs i) ≡ type_in sizes' (right_at pairs i) → pair_in sizes sizes' pairs i ≡ pair.Good
+      pub pair_good : type_in sizes (left_at pairs i) ≡ type_in sizes' (right_at pairs i) → pair_in sizes sizes' pairs i ≡ Ok tt
       unfolding pair_in
       pair_good h = rw (lt-ltb (left_at pairs i) (sum sizes) l, pair_in, lt-ltb (right_at pairs i) (sum sizes') r, eq-eqb (type_in sizes (left_at pairs i)) (type_in sizes' (right_at pairs i)) h)
 
   -- both elements of a good pair are known
-  pub pair_known : pair_in sizes sizes' pairs i ≡ pair.Good → (left_at pairs i < sum sizes) × (right_at pairs i < sum sizes')
+  pub pair_known : pair_in sizes sizes' pairs i ≡ Ok tt → (left_at pairs i < sum sizes) × (right_at pairs i < sum sizes')
   pair_known g = by_tests (split (ltb (left_at pairs i) (sum sizes))) (split (ltb (right_at pairs i) (sum sizes')))
     where
-      not_bad : {X : Type 0} (r : Refusal) → pair_in sizes sizes' pairs i ≡ pair.Bad r → X
+      not_bad : {X : Type 0} (r : Refusal) → pair_in sizes sizes' pairs i ≡ Err r → X
       not_bad r b = let z : ◌≡◌ {A = ℕ} 0 1 = cc in absurd (omega arith)
 
       by_tests : (ltb (left_at pairs i) (sum sizes) ≡ true) ⊎ (ltb (left_at pairs i) (sum sizes) ≡ false) → (ltb (right_at pairs i) (sum sizes') ≡ true) ⊎ (ltb (right_at pairs i) (sum sizes') ≡ false) → (left_at pairs i < sum sizes) × (right_at pairs i < sum sizes')
@@ -70,11 +70,11 @@ module _ (a b : Model) (pairs : List ℕ) (left i : ℕ) (f : List ℕ) where
   give_end h = let e : left ≡ 0 = omega arith in rw e
 
   module _ (h : 0 < left) where
-    pub give_bad : (r : Refusal) → pair_at a b pairs i ≡ pair.Bad r → give_from left a b pairs i f ≡ refused r
+    pub give_bad : (r : Refusal) → pair_at a b pairs i ≡ Err r → give_from left a b pairs i f ≡ refused r
     unfolding give_from
     give_bad r p = let e : left ≡ suc (left - 1) = omega arith in rw (e, p, give_from)
 
-    module _ (p : pair_at a b pairs i ≡ pair.Good) where
+    module _ (p : pair_at a b pairs i ≡ Ok tt) where
       pub give_conflict : conflicts f (root_of a (left_at pairs i)) (root_of b (right_at pairs i)) ≡ true → give_from left a b pairs i f ≡ refused (ConflictingImages (record { 0 = root_of a (left_at pairs i) }))
       unfolding give_from
       give_conflict q = let e : left ≡ suc (left - 1) = omega arith in rw (e, p, give_from, q)
@@ -84,10 +84,10 @@ module _ (a b : Model) (pairs : List ℕ) (left i : ℕ) (f : List ℕ) where
       give_next q = let e : left ≡ suc (left - 1) = omega arith in ap (λ (n : ℕ). give_from n a b pairs i f) e ∙ rw (p, give_from, q)
 
 -- what a reader answers
-pub given_good : (f : List ℕ) → given_by pair.Good f ≡ images f
+pub given_good : (f : List ℕ) → given_by (Ok tt) f ≡ images f
 unfolding given_by
 given_good f = refl
 
-pub given_bad : (r : Refusal) (f : List ℕ) → given_by (pair.Bad r) f ≡ refused r
+pub given_bad : (r : Refusal) (f : List ℕ) → given_by (Err r) f ≡ refused r
 unfolding given_by
 given_bad r f = refl

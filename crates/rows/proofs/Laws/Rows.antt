@@ -10,7 +10,10 @@ use Rattle.lists.specs.Every.{all, any}
 use Rattle.lists.specs.First.{lowest}
 use Rattle.lists.specs.Order.{same_row}
 use Rattle.lists.specs.Part.{part}
+use Rattle.lists.proofs.Laws.Part.{length-row}
 use Rattle.stored.specs.declared.layout.Layout.{Layout}
+use Rattle.stored.specs.declared.rows.Rows.{Rows}
+use Rattle.stored.specs.File.{listed}
 use Rattle.stored.specs.Model.{Model, relation_at}
 use Rattle.stored.specs.Signature.{Signature, signature, same_signature}
 use Rattle.stored.specs.Reading.{Reads, model_of}
@@ -39,6 +42,10 @@ pub some_through : (row table : List ℕ) (others : List (List ℕ)) → any (is
 unfolding has_row
 some_through row table others = sym (any-map (same_row row) (through table) others)
 
+-- the length of each row
+pub row_length : (r : Rows) (i : ℕ) → i < r.count → length (get_or (listed r) i []) ≡ r.arity
+row_length r i h = length-row r.arity r.count r.cells.now i [] r.whole h
+
 -- rows that are kept, row by row
 pub kept_each : (table : List ℕ) (rows others : List (List ℕ)) → rows_kept table rows others ≡ all (λ (row : List ℕ). has_row (through table row) others) rows
 unfolding rows_kept
@@ -57,10 +64,25 @@ module _ (a b : Model) (images : List ℕ) where
   unfolding first_unkept_by
   lowest_unkept = refl
 
+  -- the answer for the rows of relation k as they are handed on
+  pub kept_handed : (k : ℕ) (rows others : List (List ℕ)) (roots : List ℕ) → rows ≡ (relation_at a k).rows → others ≡ (relation_at b k).rows → roots ≡ b.roots → (r : Bool) → r ≡ rows_kept images rows (map (through roots) others) → kept_by a b images k ≡ r
+  kept_handed k rows others roots p q w r e = kept_rows k ∙ sym (rw (p, q, w) at e)
+
 -- the image of each element
 pub images_through : (a : Model) (f : List ℕ) → through f a.roots ≡ images_of a f
 unfolding images_of
 images_through a f = refl
+
+-- two models of one signature
+module _ (a b : Model) (same : same_signature (signature a) (signature b) ≡ true) where
+  one : signature a ≡ signature b
+  one = same_signature_lem _ _ same
+
+  pub as_many : length a.relations ≡ length b.relations
+  as_many = sym (signature_length a) ∙ ap (λ (g : Signature). length g.columns) one ∙ signature_length b
+
+  pub like_columns : (k : ℕ) → (relation_at a k).columns ≡ (relation_at b k).columns
+  like_columns k = sym (signature_columns a k) ∙ ap (λ (g : Signature). get_or g.columns k []) one ∙ signature_columns b k
 
 -- what is handed on with the rows of relation k
 abbrev pub rows_at : List ℕ → Layout → ℕ → List ℕ
@@ -71,19 +93,11 @@ abbrev pub Alike : List ℕ → List ℕ → Layout → Layout → Type 0
 Alike s t l m = Reads s l × Reads t m × (same_signature (signature (model_of s)) (signature (model_of t)) ≡ true)
 
 module _ (s t : List ℕ) (l m : Layout) (alike : Alike s t l m) where
-  equal : signature (model_of s) ≡ signature (model_of t)
-  equal = same_signature_lem _ _ alike.2
-
   pub as_many_relations : l.relations ≡ m.relations
-  as_many_relations =
-      relations_is s l alike.0
-      ∙ sym (signature_length (model_of s))
-      ∙ ap (λ (g : Signature). length g.columns) equal
-      ∙ signature_length (model_of t)
-      ∙ sym (relations_is t m alike.1)
+  as_many_relations = relations_is s l alike.0 ∙ as_many (model_of s) (model_of t) alike.2 ∙ sym (relations_is t m alike.1)
 
   pub same_columns : (k : ℕ) → (relation_at (model_of s) k).columns ≡ (relation_at (model_of t) k).columns
-  same_columns k = sym (signature_columns (model_of s) k) ∙ ap (λ (g : Signature). get_or g.columns k []) equal ∙ signature_columns (model_of t) k
+  same_columns k = like_columns (model_of s) (model_of t) alike.2 k
 
   module _ (k : ℕ) (h : k < l.relations) where
     in_target : k < m.relations

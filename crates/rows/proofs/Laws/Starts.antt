@@ -17,6 +17,7 @@ use Rattle.lists.proofs.Laws.Tests.{split, clash}
 use Rattle.lists.proofs.Laws.First.{first_at_within, first_at_passes, first_at_some}
 use Rattle.lists.proofs.Laws.Order.{before_longer, before_differ, ascending_cons, ascending_from_yes, ascending_from_no}
 use Rattle.lists.proofs.Laws.Part.{get_d_part, length-rows_of, get_d_rows_of}
+use Rattle.stored.specs.Relation.{entry_at}
 use Rattle.rows.specs.Packed.{packed, start_at, Between}
 use Rattle.rows.proofs.Laws.Packed.{Bytes, Rows, packed_same, ascending_tail, row_ends}
 
@@ -99,6 +100,10 @@ module _ (s : List ℕ) (a c : ℕ) (column : 1 ≤ a) where
   }
 
 module _ {s : List ℕ} {a c x first left : ℕ} (by : Started s a c x first left) where
+  -- the first entry, by its row and its column
+  pub first_entry : (i : ℕ) → entry_at a s i 0 ≡ head_at s a i
+  first_entry i = let e : i * a + 0 ≡ i * a = omega arith in get_d_part s (i * a) a 0 0 (omega (arith, by.column)) ∙ ap (λ (k : ℕ). get_or s k 0) e
+
   pub started_all : left ≤ 0 → first ≡ start_at (rows_of a c s) x
   unfolding start_at
   started_all h = omega (arith, at_least, at_most)

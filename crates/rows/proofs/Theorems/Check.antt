@@ -11,6 +11,7 @@ use borrow.Author.Tests.{eqb-true, ltb-false, eq-eqb, le-ltb, not-true, not-fals
 use lib.ListN.{length, get_or, replicate, length-replicate, get_or-replicate, get_or-eq_default}
 use lib.Seq.{ext_get_or}
 use lib.Dec.{eqb, ltb}
+use Rattle.std.proofs.Common.{Ok, Err}
 use Rattle.lists.specs.First.{lowest}
 use Rattle.lists.proofs.Laws.Tests.{split, clash}
 use Rattle.lists.proofs.Laws.First.{lowest_passes, lowest_below, lowest_none}
@@ -23,7 +24,6 @@ use Rattle.stored.proofs.Laws.Representatives.{rep_known, root_rep}
 use Rattle.rows.specs.Rows.{kept, first_unkept_by, first_unkept}
 use Rattle.rows.specs.Maps.{is_map}
 use Rattle.rows.specs.Pairs.{pair_count, left_at, right_at, pair_in, pair_at, Given, images, conflicts, give_from}
-use Rattle.rows.specs.declared.pairs.Pair.TheVariants as pair
 use Rattle.rows.specs.Pairs as given
 use Rattle.rows.specs.Answer.{Outcome, accepted, none, refused}
 use Rattle.rows.specs.Check.{is_missing, first_missing, judged, judged_if, blank, check_models}
@@ -259,15 +259,15 @@ module _ (a b : Model) (wa : WellFormed a) (wb : WellFormed b) (pairs : List ℕ
       }))
 
   -- a pair by itself is refused with 14 or 15 alone
-  pair_told : (i : ℕ) (r : Refusal) → pair_at a b pairs i ≡ pair.Bad r → Told r
+  pair_told : (i : ℕ) (r : Refusal) → pair_at a b pairs i ≡ Err r → Told r
   unfolding Told pair_in
   pair_told i r h = left (split (ltb (left_at pairs i) (size a)))
     where
-      other : (q : Refusal) → pair_at a b pairs i ≡ pair.Bad q → Told q → Told r
+      other : (q : Refusal) → pair_at a b pairs i ≡ Err q → Told q → Told r
       other q f t = subst Told (let e : q ≡ r = cc in e) t
 
       types : ltb (left_at pairs i) (size a) ≡ true → ltb (right_at pairs i) (size b) ≡ true → (eqb (type_of a (left_at pairs i)) (type_of b (right_at pairs i)) ≡ true) ⊎ (eqb (type_of a (left_at pairs i)) (type_of b (right_at pairs i)) ≡ false) → Told r
-      types p q (inl t) = let f : pair_at a b pairs i ≡ pair.Good = rw (p, pair_in, q, t) in let z : ◌≡◌ {A = ℕ} 0 1 = cc in absurd (omega arith)
+      types p q (inl t) = let f : pair_at a b pairs i ≡ Ok tt = rw (p, pair_in, q, t) in let z : ◌≡◌ {A = ℕ} 0 1 = cc in absurd (omega arith)
       types p q (inr t) = other (TypesDiffer i) (rw (p, pair_in, q, t)) tt
 
       right : ltb (left_at pairs i) (size a) ≡ true → (ltb (right_at pairs i) (size b) ≡ true) ⊎ (ltb (right_at pairs i) (size b) ≡ false) → Told r

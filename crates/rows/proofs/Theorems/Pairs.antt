@@ -11,13 +11,12 @@ use borrow.Author.Tests.{eqb-true, eqb-false, ltb-true, eq-eqb, ltb-false}
 use lib.ListN.{length, get_or, set, length-set}
 use lib.Seq.{get_or-set_same, get_or-set_other}
 use lib.Dec.{eqb, ltb}
+use Rattle.std.proofs.Common.{Result, Ok, Err}
 use Rattle.lists.proofs.Laws.Tests.{split, clash}
 use Rattle.stored.specs.declared.refusal.Refusal.{Refusal}
 use Rattle.stored.specs.declared.refusal.Refusal.TheVariants.{ConflictingImages}
 use Rattle.stored.specs.Model.{Model, size, type_of, root_of}
 use Rattle.stored.proofs.Laws.WellFormed.{WellFormed}
-use Rattle.rows.specs.declared.pairs.Pair.{Pair}
-use Rattle.rows.specs.declared.pairs.Pair.TheVariants as pair
 use Rattle.rows.specs.Pairs.{left_at, right_at, pair_at, Given, images, refused, conflicts, give_from}
 use Rattle.rows.proofs.Laws.Pairs.{pair_left_unknown, pair_right_unknown, pair_types_differ, pair_good, conflicts_none, conflicts_given}
 
@@ -35,10 +34,10 @@ pub record GoodPair (a b : Model) (pairs : List ℕ) (i : ℕ) : Type 0 where
   pub one_type : type_of a (left_at pairs i) ≡ type_of b (right_at pairs i)
 
 module _ (a b : Model) (pairs : List ℕ) (i : ℕ) where
-  pub good_pair : pair_at a b pairs i ≡ pair.Good → GoodPair a b pairs i
+  pub good_pair : pair_at a b pairs i ≡ Ok tt → GoodPair a b pairs i
   good_pair e = left (split (ltb (left_at pairs i) (size a)))
     where
-      wrong : {X : Type 0} {r : Refusal} → pair_at a b pairs i ≡ pair.Bad r → X
+      wrong : {X : Type 0} {r : Refusal} → pair_at a b pairs i ≡ Err r → X
       wrong h = let z : ◌≡◌ {A = ℕ} 0 1 = cc in absurd (omega arith)
 
       types : left_at pairs i < size a → right_at pairs i < size b → (eqb (type_of a (left_at pairs i)) (type_of b (right_at pairs i)) ≡ true) ⊎ (eqb (type_of a (left_at pairs i)) (type_of b (right_at pairs i)) ≡ false) → GoodPair a b pairs i
@@ -53,16 +52,16 @@ module _ (a b : Model) (pairs : List ℕ) (i : ℕ) where
       left (inl t) = right (ltb-true _ _ t) (split (ltb (right_at pairs i) (size b)))
       left (inr t) = wrong (pair_left_unknown a.sizes b.sizes pairs i (ltb-false _ _ t))
 
-  pub is_good : GoodPair a b pairs i → pair_at a b pairs i ≡ pair.Good
+  pub is_good : GoodPair a b pairs i → pair_at a b pairs i ≡ Ok tt
   is_good g = pair_good a.sizes b.sizes pairs i g.left_known g.right_known g.one_type
 
   -- the clauses of `give_from`
   module _ (left : ℕ) (f : List ℕ) where
-    pub give_bad : (r : Refusal) → pair_at a b pairs i ≡ pair.Bad r → give_from (suc left) a b pairs i f ≡ refused r
+    pub give_bad : (r : Refusal) → pair_at a b pairs i ≡ Err r → give_from (suc left) a b pairs i f ≡ refused r
     unfolding give_from
     give_bad r e = rw (e, give_from)
 
-    module _ (e : pair_at a b pairs i ≡ pair.Good) where
+    module _ (e : pair_at a b pairs i ≡ Ok tt) where
       pub give_conflict : conflicts f (named a pairs i) (meant b pairs i) ≡ true → give_from (suc left) a b pairs i f ≡ refused (ConflictingImages (record { 0 = named a pairs i }))
       unfolding give_from
       give_conflict c = rw (e, give_from, c)
@@ -118,7 +117,7 @@ module _ (a b : Model) (wa : WellFormed a) (wb : WellFormed b) (pairs : List ℕ
 -- what is wrong at the first place that fails: the pair itself, or another image given before
 abbrev pub WrongAt : Model → Model → List ℕ → ℕ → List ℕ → Refusal → Type 0
 WrongAt a b pairs j g r =
-    (pair_at a b pairs j ≡ pair.Bad r) ⊎ (GoodPair a b pairs j × (conflicts g (named a pairs j) (meant b pairs j) ≡ true) × (r ≡ ConflictingImages (record { 0 = named a pairs j })))
+    (pair_at a b pairs j ≡ Err r) ⊎ (GoodPair a b pairs j × (conflicts g (named a pairs j) (meant b pairs j) ≡ true) × (r ≡ ConflictingImages (record { 0 = named a pairs j })))
 
 -- the pairs before a place gave images g over f, and the pair there fails
 pub record Failed (a b : Model) (pairs : List ℕ) (count i : ℕ) (f : List ℕ) (r : Refusal) : Type 0 where
@@ -156,16 +155,16 @@ module _ (a b : Model) (wa : WellFormed a) (wb : WellFormed b) (pairs : List ℕ
   given_known zero i f len = gave_none a b wa wb pairs i f
   given_known (suc count) i f len = by_pair (pair_at a b pairs i) refl (given_known count)
     where
-      by_conflict : pair_at a b pairs i ≡ pair.Good → (conflicts f (named a pairs i) (meant b pairs i) ≡ true) ⊎ (conflicts f (named a pairs i) (meant b pairs i) ≡ false) → ((i : ℕ) (f : List ℕ) → length f ≡ size a → GivenKnown a b pairs count i f (give_from count a b pairs i f)) → GivenKnown a b pairs (suc count) i f (give_from (suc count) a b pairs i f)
+      by_conflict : pair_at a b pairs i ≡ Ok tt → (conflicts f (named a pairs i) (meant b pairs i) ≡ true) ⊎ (conflicts f (named a pairs i) (meant b pairs i) ≡ false) → ((i : ℕ) (f : List ℕ) → length f ≡ size a → GivenKnown a b pairs count i f (give_from count a b pairs i f)) → GivenKnown a b pairs (suc count) i f (give_from (suc count) a b pairs i f)
       by_conflict e (inl c) ih = rw (give_conflict a b pairs i count f e c) (failed_here count i f (ConflictingImages (record { 0 = named a pairs i })) (inr (good_pair a b pairs i e, c, refl)))
       by_conflict e (inr c) ih =
           rw (give_more a b pairs i count f e c)
           (known_later i f len (good_pair a b pairs i e) c count (give_from count a b pairs (i + 1) (set f (named a pairs i) (meant b pairs i)))
           (ih (i + 1) (set f (named a pairs i) (meant b pairs i)) (length-set f (named a pairs i) (meant b pairs i) ∙ len)))
 
-      by_pair : (p : Pair) → pair_at a b pairs i ≡ p → ((i : ℕ) (f : List ℕ) → length f ≡ size a → GivenKnown a b pairs count i f (give_from count a b pairs i f)) → GivenKnown a b pairs (suc count) i f (give_from (suc count) a b pairs i f)
-      by_pair (pair.Bad r) e ih = rw (give_bad a b pairs i count f r e) (failed_here count i f r (inl e))
-      by_pair pair.Good e ih = by_conflict e (split (conflicts f (named a pairs i) (meant b pairs i))) ih
+      by_pair : (p : Result (Unit {0}) Refusal) → pair_at a b pairs i ≡ p → ((i : ℕ) (f : List ℕ) → length f ≡ size a → GivenKnown a b pairs count i f (give_from count a b pairs i f)) → GivenKnown a b pairs (suc count) i f (give_from (suc count) a b pairs i f)
+      by_pair (Err r) e ih = rw (give_bad a b pairs i count f r e) (failed_here count i f r (inl e))
+      by_pair (Ok u) e ih = by_conflict e (split (conflicts f (named a pairs i) (meant b pairs i))) ih
 
   -- good pairs that agree with one map F never conflict, and what they give agrees with F too
   abbrev pub AgreesWith : List ℕ → List ℕ → Type 0

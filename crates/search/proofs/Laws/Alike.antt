@@ -1,16 +1,17 @@
 -- The laws of models that are alike: row counts by the layouts, case by case. Assumes nothing.
-use Prim.Native.Nat.{ℕ, ◌<◌}
+use Prim.Native.Nat.{ℕ, zero, suc, ◌+◌, ◌<◌, ◌≤◌}
 use mathlib.Core.Path.{◌≡◌, sym, ◌∙◌, ap, ap₂}
-use mathlib.Core.Bool.{Bool, true, false}
-use mathlib.Core.List.{List, Memᴰ}
+use mathlib.Core.Bool.{Bool, true, false, ◌&&◌}
+use mathlib.Core.List.{List, [], ◌∷◌, Memᴰ}
 use native.Mathlib.Omega.{arith}
 use borrow.Author.Tests.{eq-eqb, ne_eqb}
 use lib.Dec.{eqb}
-use lib.ListN.{length, get_or}
+use lib.ListN.{length, get_or, take}
+use lib.Pointwise.{pointwise}
 use Rattle.lists.specs.Every.{all}
 use Rattle.lists.specs.Numbers.{up_from}
-use Rattle.lists.proofs.Laws.Every.{mem_all, all_mem}
-use Rattle.lists.proofs.Laws.Numbers.{mem_up_from}
+use Rattle.lists.proofs.Laws.Every.{all_none, all_yes, all_no, mem_all, all_mem}
+use Rattle.lists.proofs.Laws.Numbers.{up_from_none, up_from_cons, mem_up_from}
 use Rattle.lists.proofs.Laws.Tests.{same_test}
 use Rattle.stored.specs.declared.layout.Layout.{Layout}
 use Rattle.stored.specs.Model.{Model}
@@ -29,6 +30,24 @@ module _ (l m : Layout) (k : ℕ) where
   pub other_count : (get_or l.count k 0 ≡ get_or m.count k 0 → ⊥) → same_count_in l m k ≡ false
   unfolding same_count_in
   other_count d = ne_eqb _ _ d
+
+-- fronts of two lists, compared as lists or number by number
+fronts_same : (p : ℕ → Bool) (xs ys : List ℕ) (n i : ℕ) → n ≤ length xs → n ≤ length ys → ((k : ℕ) → p (i + k) ≡ eqb (get_or xs k 0) (get_or ys k 0)) → pointwise eqb (take n xs) (take n ys) ≡ all p (up_from i n)
+fronts_same p xs ys zero i h k e = sym (ap (all p) (up_from_none i) ∙ all_none p)
+fronts_same p [] ys (suc n) i h k e = absurd (omega arith)
+fronts_same p (x ∷ xs) [] (suc n) i h k e = absurd (omega arith)
+fronts_same p (x ∷ xs) (y ∷ ys) (suc n) i h k e =
+    go (eqb x y) (let q : i ≡ i + 0 = omega arith in ap p q ∙ e 0) (fronts_same p xs ys n (suc i) (omega arith) (omega arith) (λ j. let q : suc i + j ≡ i + suc j = omega arith in ap p q ∙ e (suc j)))
+    ∙ ap (all p) (sym (up_from_cons i n))
+  where
+    go : (b : Bool) → p i ≡ b → pointwise eqb (take n xs) (take n ys) ≡ all p (up_from (suc i) n) → (b && pointwise eqb (take n xs) (take n ys)) ≡ all p (i ∷ up_from (suc i) n)
+    go true q ih = ih ∙ sym (all_yes p i (up_from (suc i) n) q)
+    go false q ih = sym (all_no p i (up_from (suc i) n) q)
+
+-- the row counts of the first relations, compared as lists
+pub counts_same : (l m : Layout) (n : ℕ) → n ≤ length l.count → n ≤ length m.count → pointwise eqb (take n l.count) (take n m.count) ≡ all (same_count_in l m) (up_from 0 n)
+unfolding same_count_in
+counts_same l m n h k = fronts_same (same_count_in l m) l.count m.count n 0 h k (λ j. let e : 0 + j ≡ j = omega arith in rw e)
 
 -- tests that agree on the members of a list
 pub all_agree : (p q : ℕ → Bool) (xs : List ℕ) → ((x : ℕ) → Memᴰ x xs → p x ≡ q x) → all p xs ≡ all q xs

@@ -1,6 +1,6 @@
 -- The laws of open choices in the lent work: rows written into it, what a store leaves as it was, the candidates of a choice, the choices that stay
 -- open, the choice that goes on. Assumes nothing.
-use Prim.Native.Nat.{ℕ, zero, suc, ◌+◌, ◌-◌, ◌*◌, ◌<◌, ◌≤◌}
+use Prim.Native.Nat.{ℕ, zero, suc, ◌+◌, ◌-◌, ◌*◌, ◌<◌, ◌≤◌, max}
 use mathlib.Core.Path.{◌≡◌, refl, sym, ◌∙◌, ap}
 use mathlib.Core.Bool.{Bool, true, false}
 use mathlib.Core.List.{List, [], ◌∷◌, ◌++◌, append_assoc}
@@ -22,11 +22,9 @@ use Rattle.lists.proofs.Laws.First.{lowest_next, lowest_here, lowest_end}
 use Rattle.lists.proofs.Laws.Numbers.{up_from_next, up_from_end}
 use Rattle.lists.proofs.Laws.Part.{drop-take, get_d_part}
 use Rattle.lists.proofs.Laws.Tests.{split}
-use Rattle.stored.specs.declared.layout.Layout.{Layout}
 use Rattle.stored.specs.Model.{Model, size, is_rep_in, is_rep}
-use Rattle.stored.specs.Reading.{Reads, model_of}
+use Rattle.stored.proofs.Laws.WellFormed.{WellFormed}
 use Rattle.stored.specs.Limits.{max_elements}
-use Rattle.rows.proofs.Laws.Given.{roots_in, roots_between, roots_count}
 use Rattle.rounds.specs.Colours.{colour_at}
 use Rattle.rounds.specs.Round.{reps, Sides, colour_count}
 use Rattle.rounds.specs.Classes.{lowest_of}
@@ -223,11 +221,14 @@ module _ {p : ℕ → Bool} {n from y : ℕ} (f : FirstRep p n from y) where
   pub rep_over : n ≤ y → y ≡ lowest p from (n - from)
   rep_over h = sym (lowest_end p y n h) ∙ f.same
 
+  -- none was found: the end, or the start where that is past it
+  pub rep_none : n ≤ y → (from ≤ n → y ≤ n) → max from n ≡ lowest p from (n - from)
+  rep_none h k = by_cases (dec_le n from) (λ e. omega (arith, lowest_end p from n e)) (λ e. omega (arith, rep_over h))
+
 -- the candidate by the roots of the file
-pub candidate_is : (s : List ℕ) (l : Layout) → Reads s l → (from r : ℕ) → r ≡ lowest (is_rep_in (roots_in s l)) from (length (roots_in s l) - from) → r ≡ candidate_from (model_of s) from
+pub candidate_is : (m : Model) → WellFormed m → (xs : List ℕ) → xs ≡ m.roots → (from r : ℕ) → r ≡ lowest (is_rep_in xs) from (length xs - from) → r ≡ candidate_from m from
 unfolding candidate_from
-candidate_is s l reads from r e =
-    e ∙ ap (λ (n : ℕ). lowest (is_rep_in (roots_in s l)) from (n - from)) (roots_count s l reads) ∙ ap (λ (roots : List ℕ). lowest (is_rep_in roots) from (size (model_of s) - from)) (roots_between s l reads)
+candidate_is m w xs d from r e = e ∙ rw (d, w.roots_length)
 
 -- the numbers from y on below n that pass a test: none where the lowest is past the end, else the lowest and those after it
 module _ (p : ℕ → Bool) (n : ℕ) where

@@ -17,7 +17,6 @@ use Rattle.stored.specs.Model.{Model, size, is_rep_in, relation_at}
 use Rattle.stored.specs.Reading.{Reads, model_of}
 use Rattle.stored.proofs.Laws.Reading.{reads_formed}
 use Rattle.rows.specs.Rows.{through, has_row, rows_kept}
-use Rattle.rows.proofs.Laws.Given.{roots_in, roots_between, roots_count}
 use Rattle.rows.proofs.Laws.Rows.{kept_each}
 use Rattle.rows.proofs.Theorems.Among.{row_among, through_map}
 use Rattle.rounds.specs.Colours.{colour_at}
@@ -56,12 +55,13 @@ module _ (s t : List ℕ) (l m : Layout) (p : Reads s l) (q : Reads t m) (left r
           ∙ rw (e, image_of)
       go (inr e) = image_alias (model_of s).roots (model_of t).roots left right x e ∙ rw (e, image_of)
 
-  map_handed : map (image_in (roots_in s l) (roots_in t m) left right) (up_from 0 (length (roots_in s l))) ≡ map_of (model_of s) (model_of t) sides
-  unfolding map_of
-  map_handed = rw (roots_count s l p, roots_between s l p, roots_between t m q) (map_congr_left {l = up_from 0 (size (model_of s))} (λ x n. image_handed x))
+  module _ (xs ys : List ℕ) (d : xs ≡ (model_of s).roots) (e : ys ≡ (model_of t).roots) where
+    map_handed : map (image_in xs ys left right) (up_from 0 (length xs)) ≡ map_of (model_of s) (model_of t) sides
+    unfolding map_of
+    map_handed = rw (d, e, (reads_formed s l p).roots_length) (map_congr_left {l = up_from 0 (size (model_of s))} (λ x n. image_handed x))
 
-  pub map_written : (new old : List ℕ) → new ≡ over (map (image_in (roots_in s l) (roots_in t m) left right) (up_from 0 (length (roots_in s l)))) old → new ≡ over (map_of (model_of s) (model_of t) sides) old
-  map_written new old w = w ∙ ap (λ (x : List ℕ). over x old) map_handed
+    pub map_written : (new old : List ℕ) → new ≡ over (map (image_in xs ys left right) (up_from 0 (length xs))) old → new ≡ over (map_of (model_of s) (model_of t) sides) old
+    map_written new old w = w ∙ ap (λ (x : List ℕ). over x old) map_handed
 
 -- a test of all images is one of all members
 all_map : {A B : Type 0} (p : B → Bool) (f : A → B) (xs : List A) → all p (map f xs) ≡ all (λ (x : A). p (f x)) xs

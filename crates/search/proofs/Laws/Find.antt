@@ -1,16 +1,17 @@
 -- The laws of find: its outcome, case by case. Assumes nothing.
 use Prim.Native.Nat.{ℕ, ◌%◌, ◌<◌, ◌≤◌}
+use native.Mathlib.Omega.{arith}
 use mathlib.Core.Path.{◌≡◌, ap}
 use mathlib.Core.Bool.{true, false}
 use mathlib.Core.List.{List}
 use borrow.Author.Tests.{lt-ltb, le-ltb, eq-eqb, ne_eqb}
 use lib.ListN.{length}
+use Rattle.std.proofs.Common.{Ok, Err}
 use Rattle.stored.specs.declared.refusal.Refusal.{Refusal}
 use Rattle.stored.specs.declared.refusal.Refusal.TheVariants.{NoRoom, NotCanonical, SignaturesDiffer, OddPairs, NotAMap}
 use Rattle.stored.specs.Model.{Model, size}
 use Rattle.stored.specs.Canonical.{canonical}
 use Rattle.stored.specs.Signature.{signature, same_signature}
-use Rattle.rows.specs.declared.pairs.Pair.TheVariants as pair
 use Rattle.rows.specs.Pairs.{pair_count}
 use Rattle.rows.specs.Maps.{is_map}
 use Rattle.rounds.specs.Round.{reps}
@@ -30,11 +31,11 @@ module _ (a b : Model) (budget : ℕ) where
   among_same e = ap (λ (ps : List ℕ). find_among a b ps budget) e
 
   module _ (pairs : List ℕ) where
-    pub among_bad : (r : Refusal) → pairs_from (pair_count pairs) a b pairs 0 ≡ pair.Bad r → find_among a b pairs budget ≡ refused r
+    pub among_bad : (r : Refusal) → pairs_from (pair_count pairs) a b pairs 0 ≡ Err r → find_among a b pairs budget ≡ refused r
     unfolding find_among find_paired
     among_bad r e = rw e
 
-    pub among_good : pairs_from (pair_count pairs) a b pairs 0 ≡ pair.Good → find_among a b pairs budget ≡ ended (searched a b budget (partners_of a b pairs))
+    pub among_good : pairs_from (pair_count pairs) a b pairs 0 ≡ Ok tt → find_among a b pairs budget ≡ ended (searched a b budget (partners_of a b pairs))
     unfolding find_among find_paired
     among_good e = rw e
 
@@ -117,3 +118,10 @@ module _ (f g : List ℕ) (budget room work : ℕ) (o a b : Model) where
                 pub under_goes_on : is_map o b g ≡ true → under_models f g budget room work o a b ≡ find_among a b (pairs_under f g (reps o)) budget
                 unfolding under_models
                 under_goes_on n = rw (le-ltb room (size a) h, le-ltb work work_room w, under_models, l, r, s, t, m, n)
+
+-- whether there is room for a byte for each element, told by their number
+pub too_small : {n room many : ℕ} → n ≡ many → room < n → room < many
+too_small e h = omega arith
+
+pub large_enough : {n room many : ℕ} → n ≡ many → n ≤ room → many ≤ room
+large_enough e h = omega arith

@@ -24,8 +24,9 @@ use Rattle.rounds.specs.Parts.{are_small}
 use Rattle.rounds.specs.Board.{board_room, Board}
 use Rattle.rounds.proofs.Theorems.Keys.{reps_below_lem, reps_kept}
 use Rattle.rounds.proofs.Theorems.Single.{open_lowest}
-use Rattle.search.specs.declared.answer.Answer as answered
-use Rattle.search.specs.declared.answer.Answer.TheVariants as answer
+use Rattle.std.specs.Prelude.{Ok}
+use Rattle.search.specs.declared.answer.Verdict.TheVariants as verdict
+use Rattle.search.specs.Answer as answered
 use Rattle.search.specs.declared.machine.Phase.{Phase}
 use Rattle.search.specs.declared.machine.Phase.TheVariants as phase
 use Rattle.search.specs.Machine.{Choice, State, refine, close, choose, done, open_in, Step, there, nowhere, takes, map_of, closes, after_round, after_closing, gone_on, next_choice, step, Reached, here, next, Ended, found, none, exhausted, run}
@@ -195,11 +196,11 @@ module _ {s t : List ℕ} {l m : Layout} {cells : ℕ} {start : List (List ℕ)}
       (x ≡ answer_of (ended (whole a b budget (sides_in a b start))))
       × ((out' ≡ written (ended (whole a b budget (sides_in a b start))) out₀) × ((length work' ≡ length work₀) × (drop work_room work' ≡ drop work_room work₀)))
 
-  answers_exhausted : whole a b budget (sides_in a b start) ≡ exhausted used → Answers (answer.Exhausted used) out work
+  answers_exhausted : whole a b budget (sides_in a b start) ≡ exhausted used → Answers (Ok (verdict.Exhausted used)) out work
   unfolding answer_of written
   answers_exhausted e = rw e (refl, (r.same_out, (r.long, r.above)))
 
-  answers_none : whole a b budget (sides_in a b start) ≡ none used → Answers (answer.None used) out work
+  answers_none : whole a b budget (sides_in a b start) ≡ none used → Answers (Ok (verdict.None used)) out work
   unfolding answer_of written
   answers_none e = rw e (refl, (r.same_out, (r.long, r.above)))
 
@@ -214,7 +215,7 @@ module _ {s t : List ℕ} {l m : Layout} {cells : ℕ} {start : List (List ℕ)}
     round_small h =
         reached_small a b (reads_formed s l r.reads) (reads_formed t m r.others) 1 (sides_in a b start) (sides_in a b colours) now_choices h at_round.reached
 
-    pub round_out : used ≡ budget → Answers (answer.Exhausted used) out work
+    pub round_out : used ≡ budget → Answers (Ok (verdict.Exhausted used)) out work
     round_out u = answers_exhausted (goes_out a b budget (sides_in a b start) used _ at_round _ (step_refine a b (sides_in a b colours) now_choices) u)
 
     pub round_on :
@@ -248,12 +249,12 @@ module _ {s t : List ℕ} {l m : Layout} {cells : ℕ} {start : List (List ℕ)}
     pub check_one_to_one : OneToOne a its_map
     check_one_to_one = settled_one_to_one a b (sides_in a b colours) (reached_sound a b 1 (sides_in a b start) (close (sides_in a b colours) now_choices) at_check.reached).0
 
-    pub check_out : used ≡ budget → Answers (answer.Exhausted used) out work
+    pub check_out : used ≡ budget → Answers (Ok (verdict.Exhausted used)) out work
     unfolding step
     check_out u = answers_exhausted (goes_out a b budget (sides_in a b start) used _ at_check _ refl u)
 
     module _ (n : used ≡ budget → ⊥) {passed : Bool} (e : passed ≡ closes a b its_map) {out' : List ℕ} (f : out' ≡ written_if passed its_map out) where
-      pub check_found : passed ≡ true → Answers (answer.Found (used + 1)) out' work
+      pub check_found : passed ≡ true → Answers (Ok (verdict.Found (used + 1))) out' work
       unfolding answer_of written written_if
       check_found p =
           let g = goes_on a b budget (sides_in a b start) used _ at_check _ (step_passes a b (sides_in a b colours) now_choices (sym e ∙ p)) n in
@@ -286,14 +287,14 @@ module _ {s t : List ℕ} {l m : Layout} {cells : ℕ} {start : List (List ℕ)}
     leads : (x : Step) → next_choice (choices_in a b (choices_on work) stay) ≡ x → step 1 a b (choose now_choices) ≡ x
     leads x e = step_choose a b now_choices ∙ o.same a ∙ e
 
-    pub choice_none : stay ≡ 0 → Answers (answer.None used) out work
+    pub choice_none : stay ≡ 0 → Answers (Ok (verdict.None used)) out work
     choice_none z = answers_none (goes_nowhere a b budget (sides_in a b start) used _ at_choice (leads nowhere (ap (λ (i : ℕ). next_choice (choices_in a b (choices_on work) i)) z ∙ next_none a b (choices_on work))))
 
     module _ (some : stay ≡ 0 → ⊥) where
       least : 1 ≤ stay
       least = omega (arith, some)
 
-      pub choice_out : used ≡ budget → Answers (answer.Exhausted used) out work
+      pub choice_out : used ≡ budget → Answers (Ok (verdict.Exhausted used)) out work
       choice_out u =
           let e : stay ≡ suc (stay - 1) = omega (arith, some) in
           answers_exhausted

@@ -6,6 +6,7 @@ use mathlib.Core.Bool.{true, false}
 use mathlib.Core.List.{List, [], ◌∷◌, ◌++◌}
 use native.Mathlib.Omega.{arith}
 use lib.ListN.{length, get_or, set}
+use Rattle.std.proofs.Common.{Ok, Err}
 use Rattle.stored.specs.declared.refusal.Refusal.{Refusal}
 use Rattle.stored.specs.declared.layout.Layout.{Layout}
 use Rattle.stored.specs.Limits.{max_elements}
@@ -13,7 +14,6 @@ use Rattle.stored.specs.Model.{Model, size, root_of}
 use Rattle.stored.specs.Reading.{Reads, model_of}
 use Rattle.stored.proofs.Laws.Reading.{reads_formed}
 use Rattle.stored.proofs.Laws.Lookup.{root_inside, root_at, root_at_known}
-use Rattle.rows.specs.declared.pairs.Pair.TheVariants as pair
 use Rattle.rows.specs.Pairs.{pair_count, left_at, right_at, pair_at, conflicts}
 use Rattle.rows.proofs.Laws.Pairs.{pair_inside}
 use Rattle.rows.proofs.Theorems.Pairs.{GoodPair}
@@ -22,16 +22,16 @@ use Rattle.search.specs.Find.{pairs_under}
 
 -- whether the pairs from a place on hold, with so many left
 module _ (a b : Model) (pairs : List ℕ) (left i : ℕ) where
-  pub pairs_end : left ≤ 0 → pairs_from left a b pairs i ≡ pair.Good
+  pub pairs_end : left ≤ 0 → pairs_from left a b pairs i ≡ Ok tt
   unfolding pairs_from
   pairs_end h = let e : left ≡ 0 = omega arith in rw e
 
   module _ (h : 0 < left) where
-    pub pairs_bad : (r : Refusal) → pair_at a b pairs i ≡ pair.Bad r → pairs_from left a b pairs i ≡ pair.Bad r
+    pub pairs_bad : (r : Refusal) → pair_at a b pairs i ≡ Err r → pairs_from left a b pairs i ≡ Err r
     unfolding pairs_from
     pairs_bad r p = let e : left ≡ suc (left - 1) = omega arith in rw (e, p, pairs_from)
 
-    pub pairs_next : pair_at a b pairs i ≡ pair.Good → pairs_from left a b pairs i ≡ pairs_from (left - 1) a b pairs (i + 1)
+    pub pairs_next : pair_at a b pairs i ≡ Ok tt → pairs_from left a b pairs i ≡ pairs_from (left - 1) a b pairs (i + 1)
     unfolding pairs_from
     pairs_next p = let e : left ≡ suc (left - 1) = omega arith in ap (λ (n : ℕ). pairs_from n a b pairs i) e ∙ rw (p, pairs_from)
 

@@ -8,6 +8,7 @@ use native.Mathlib.Omega.{arith}
 use borrow.Author.Tests.{ne_eqb, eq-eqb}
 use lib.ListN.{length, get_or, take, drop, length-append, take-append-drop}
 use lib.Seq.{take_at, drop_at, drop-drop, length-take-le, length_front}
+use Rattle.std.specs.Prelude.{Option, None, Some}
 use Rattle.lists.specs.Numbers.{up_from}
 use Rattle.lists.proofs.Laws.Different.{keep_fits}
 use Rattle.lists.proofs.Laws.First.{lowest_within}
@@ -18,12 +19,10 @@ use Rattle.stored.specs.Limits.{max_elements}
 use Rattle.stored.specs.Model.{Model, size, is_rep}
 use Rattle.stored.specs.Reading.{Reads, model_of}
 use Rattle.stored.proofs.Laws.Reading.{reads_formed, size_is}
-use Rattle.rows.proofs.Laws.Given.{roots_in, roots_few, size_few}
+use Rattle.rows.proofs.Laws.Given.{size_few}
 use Rattle.rounds.specs.declared.colour.Colour.{Colour}
-use Rattle.rounds.specs.declared.classes.Open.{Open as Found}
-use Rattle.rounds.specs.declared.classes.Open.TheVariants as found
 use Rattle.rounds.specs.Board.{board_room, Board}
-use Rattle.rounds.specs.Classes.{all_single, open_at, open_of, smallest_open, lowest_of}
+use Rattle.rounds.specs.Classes.{open_of, smallest_open, lowest_of}
 use Rattle.rounds.specs.Parts.{are_small, has_colour}
 use Rattle.rounds.specs.Round.{Sides, colours_of, Outcome, dead, stable, again, colour_count, equal_counts, outcome, round, round_outcome}
 use Rattle.rounds.proofs.Laws.Classes.{open_none, open_at_lem}
@@ -63,11 +62,11 @@ module _ (c : Sides) (choices : List Choice) where
 
   -- what follows a stable round
   module _ (a b : Model) where
-    stable_single : after_stable a b c choices all_single ≡ close c choices
+    stable_single : after_stable a b c choices None ≡ close c choices
     unfolding after_stable
     stable_single = refl
 
-    stable_open : (k : ℕ) → after_stable a b c choices (open_at k) ≡ choose (choice_at a b c k ∷ choices)
+    stable_open : (k : ℕ) → after_stable a b c choices (Some k) ≡ choose (choice_at a b c k ∷ choices)
     unfolding after_stable
     stable_open k = refl
 
@@ -78,14 +77,17 @@ module _ (s : List ℕ) (l : Layout) (reads : Reads s l) (colours : List ℕ) wh
       omega (arith, count_fits (model_of s) colours, ap length (reps_kept (model_of s)), keep_fits (is_rep (model_of s)) (up_from 0 (size (model_of s))), length-up_from 0 (size (model_of s)), (reads_formed s l reads).few_elements)
 
   pub low_element : (k : ℕ) → lowest_of (model_of s) colours k ≤ max_elements
-  low_element k = omega (arith, lowest_handed s l reads colours k, (lowest_within (has_colour (roots_in s l) colours k) 0 (length (roots_in s l))).1, roots_few s l reads)
+  low_element k =
+      let w = reads_formed s l reads in
+      let roots = (model_of s).roots in
+      omega (arith, lowest_handed (model_of s) w roots refl colours k, (lowest_within (has_colour roots colours k) 0 (length roots)).1, w.roots_length, w.few_elements)
 
 -- a stable round: what the class looked for comes to
-module _ (a : Model) (left right w₀ : List ℕ) (depth : ℕ) (r : Found) (is : open_of r ≡ smallest_open a left) where
+module _ (a : Model) (left right w₀ : List ℕ) (depth : ℕ) (r : Option Colour) (is : open_of r ≡ smallest_open a left) where
   abbrev sides : Sides
   sides = record { left = left; right = right }
 
-  pub settled_single : r ≡ found.AllSingle → Settled a left right w₀ depth phase.Close depth w₀
+  pub settled_single : r ≡ None → Settled a left right w₀ depth phase.Close depth w₀
   settled_single q = record {
     settled = λ b e.
         state_close sides (choices_in a b w₀ depth)
@@ -94,7 +96,7 @@ module _ (a : Model) (left right w₀ : List ℕ) (depth : ℕ) (r : Found) (is 
     within = omega arith;
   }
 
-  module _ (k : Colour) (q : r ≡ found.At k) (x count : ℕ) (x-is : x ≡ lowest_of a left k.0) (count-is : count ≡ colour_count a left) (fits : length left ≡ size a) (w : List ℕ) where
+  module _ (k : Colour) (q : r ≡ Some k) (x count : ℕ) (x-is : x ≡ lowest_of a left k.0) (count-is : count ≡ colour_count a left) (fits : length left ≡ size a) (w : List ℕ) where
     opened_so : Opened w₀ depth left right x k.0 count w → Opened w₀ depth left right (lowest_of a left k.0) k.0 (colour_count a left) w
     opened_so o = rw (← x-is, ← count-is) o
 

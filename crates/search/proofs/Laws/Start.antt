@@ -25,8 +25,7 @@ use Rattle.rounds.specs.Board.{board_room, Board}
 use Rattle.rounds.proofs.Laws.Colours.{length_left, length_right}
 use Rattle.search.specs.Partners.{PartnersOf}
 use Rattle.search.specs.Machine.{State, refine, image_of, map_of, closes, run}
-use Rattle.search.specs.Answer.{work_room, cleared, ended, answer_of, written}
-use Rattle.search.specs.declared.answer.Answer.{Answer}
+use Rattle.search.specs.Answer.{Answer, work_room, cleared, ended, answer_of, written}
 use Rattle.search.specs.Find.{round_cost, start_from}
 use Rattle.search.specs.Choices.{sides_in, Rows, SmallSides, written_if}
 use Rattle.search.specs.Closing.{OneToOne}

@@ -5,25 +5,29 @@ use mathlib.Core.Path.{◌≡◌, sym, ◌∙◌, ap, ap₂}
 use mathlib.Core.Bool.{Bool, true, false}
 use mathlib.Core.List.{List, ◌++◌}
 use native.Mathlib.Omega.{arith}
-use lib.ListN.{length, take, drop}
+use lib.ListN.{length, take, drop, length-set, length-take, length-append, length-drop}
 use lib.Seq.{length-take-le}
 use Rattle.lists.specs.Every.{keep}
 use Rattle.lists.specs.Numbers.{up_from}
 use Rattle.lists.specs.Part.{over}
 use Rattle.lists.proofs.Laws.Over.{back_room, back_front, over_holds, over_front}
 use Rattle.stored.specs.declared.layout.Layout.{Layout}
-use Rattle.stored.specs.Model.{size, is_rep_in}
+use Rattle.stored.specs.Model.{Model, size, is_rep_in}
+use Rattle.stored.proofs.Laws.WellFormed.{WellFormed}
 use Rattle.stored.specs.Reading.{Reads, model_of}
 use Rattle.stored.proofs.Laws.Reading.{size_is}
 use Rattle.rows.specs.Pairs.{pair_count}
 use Rattle.rows.specs.Check.{blank}
-use Rattle.rows.proofs.Laws.Given.{size_few, roots_in, roots_between, roots_count, roots_few}
+use Rattle.rows.proofs.Laws.Given.{size_few}
 use Rattle.rows.proofs.Laws.Check.{length_blank, blank_front}
 use Rattle.rounds.specs.Round.{reps}
 use Rattle.rounds.proofs.Theorems.Keys.{reps_kept}
 use Rattle.search.specs.Partners.{partners, clash, partners_from, partners_of, partners_by}
 use Rattle.search.specs.Find.{pairs_under}
 use Rattle.search.proofs.Laws.Pairs.{partners_good, partners_clash}
+
+-- how long tables and their fronts are, by the sizes of files that were read
+pub ruleset fronts = (size_few, size_is, length_blank, length-set, length-take, length-append, length-drop)
 
 -- a blank table, with a byte for each element of a file in its front
 module _ (s : List ℕ) (l : Layout) (p : Reads s l) (array : List ℕ) (e : array ≡ blank 64) where
@@ -62,20 +66,20 @@ module _ (s t : List ℕ) (l m : Layout) (p : Reads s l) (q : Reads t m) (array 
   pub given_partners : r ≡ true → (long : length new ≡ length (take l.size array)) (long' : length new' ≡ length (take m.size array')) → partners_of (model_of s) (model_of t) pairs ≡ partners (take l.size (new ++ drop l.size array)) (take m.size (new' ++ drop m.size array'))
   given_partners h long long' = given ∙ rw h (partners_good new new') ∙ sym (ap₂ partners (written_front s l p array e new long) (written_front t m q array' e' new' long'))
 
--- the pairs that two maps give to the representatives of a base, as they are written
-abbrev pub pairs_in : List ℕ → Layout → List ℕ → List ℕ → List ℕ
-pairs_in s l f g = pairs_under f g (keep (is_rep_in (roots_in s l)) (up_from 0 (length (roots_in s l))))
+-- the pairs that two maps give to the representatives of a base, as they are written, by its roots as they are handed on
+abbrev pub pairs_in : List ℕ → List ℕ → List ℕ → List ℕ
+pairs_in xs f g = pairs_under f g (keep (is_rep_in xs) (up_from 0 (length xs)))
 
-module _ (s : List ℕ) (l : Layout) (p : Reads s l) where
-  pub base_fits : (array : List ℕ) → length array ≡ 128 → 2 * length (roots_in s l) ≤ length array
-  base_fits array e = omega (arith, roots_few s l p)
+module _ (m : Model) (v : WellFormed m) (xs : List ℕ) (d : xs ≡ m.roots) where
+  pub base_fits : (array : List ℕ) → length array ≡ 128 → 2 * length xs ≤ length array
+  base_fits array e = omega (arith, ap length d, v.roots_length, v.few_elements)
 
-  module _ (f g array new : List ℕ) (n : ℕ) (w : (new ≡ over (pairs_in s l f g) array) × (n ≡ length (pairs_in s l f g))) where
+  module _ (f g array new : List ℕ) (n : ℕ) (w : (new ≡ over (pairs_in xs f g) array) × (n ≡ length (pairs_in xs f g))) where
     pub base_room : n ≤ length new
-    base_room = omega (arith, w.1, ap length w.0, over_holds (pairs_in s l f g) array)
+    base_room = omega (arith, w.1, ap length w.0, over_holds (pairs_in xs f g) array)
 
     pub base_long : n ≡ length (take n new)
     base_long = sym (length-take-le n new base_room)
 
-    pub base_pairs : take n new ≡ pairs_under f g (reps (model_of s))
-    base_pairs = ap₂ take w.1 w.0 ∙ over_front (pairs_in s l f g) array ∙ ap (pairs_under f g) (rw (roots_count s l p, roots_between s l p, reps_kept (model_of s)))
+    pub base_pairs : take n new ≡ pairs_under f g (reps m)
+    base_pairs = ap₂ take w.1 w.0 ∙ over_front (pairs_in xs f g) array ∙ ap (pairs_under f g) (rw (d, v.roots_length, reps_kept m))

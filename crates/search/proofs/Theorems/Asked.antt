@@ -4,10 +4,9 @@ use Prim.Native.Nat.{ℕ}
 use mathlib.Core.Path.{◌≡◌, refl, subst}
 use mathlib.Core.Bool.{true, false}
 use mathlib.Core.List.{List, []}
+use Rattle.std.proofs.Common.{Result, Ok, Err}
 use Rattle.stored.specs.declared.refusal.Refusal.{Refusal}
 use Rattle.stored.specs.Model.{Model}
-use Rattle.rows.specs.declared.pairs.Pair.{Pair}
-use Rattle.rows.specs.declared.pairs.Pair.TheVariants as pair
 use Rattle.rows.specs.Pairs.{pair_count}
 use Rattle.search.specs.Partners.{pairs_from, partners, clash, partners_of}
 use Rattle.search.specs.Machine.{refine, Ended, none, run}
@@ -25,9 +24,9 @@ module _ (a b : Model) (pairs : List ℕ) (budget : ℕ) where
   unfolding find_among find_paired
   among_known = by_pairs (pairs_from (pair_count pairs) a b pairs 0) refl
     where
-      by_pairs : (p : Pair) → pairs_from (pair_count pairs) a b pairs 0 ≡ p → AmongKnown (find_paired a b pairs budget p)
-      by_pairs pair.Good e = (all_good a b pairs e, refl)
-      by_pairs (pair.Bad r) e = first_bad a b pairs r e
+      by_pairs : (p : Result (Unit {0}) Refusal) → pairs_from (pair_count pairs) a b pairs 0 ≡ p → AmongKnown (find_paired a b pairs budget p)
+      by_pairs (Ok u) e = (all_good a b pairs e, refl)
+      by_pairs (Err r) e = first_bad a b pairs r e
 
   pub among_ended : (e : Ended) → find_among a b pairs budget ≡ ended e → AllGood a b pairs × (searched a b budget (partners_of a b pairs) ≡ e)
   among_ended e q = subst AmongKnown q among_known

@@ -9,6 +9,7 @@ use native.Mathlib.Omega.{arith}
 use borrow.Author.Tests.{eqb-true}
 use lib.ListN.{length}
 use lib.Dec.{eqb, ltb}
+use Rattle.std.proofs.Common.{Result, Ok, Err}
 use Rattle.lists.specs.Every.{all}
 use Rattle.lists.specs.Numbers.{up_from}
 use Rattle.lists.proofs.Laws.Tests.{split, and_left}
@@ -16,8 +17,7 @@ use Rattle.stored.specs.Model.{Model, size}
 use Rattle.stored.specs.Parse.{Parsed, model, fault, parse}
 use Rattle.stored.specs.Canonical.{canonical}
 use Rattle.stored.specs.Signature.{signature, same_signature}
-use Rattle.rows.specs.declared.pairs.Pair.{Pair}
-use Rattle.rows.specs.declared.pairs.Pair.TheVariants as pair
+use Rattle.stored.specs.declared.refusal.Refusal.{Refusal}
 use Rattle.rows.specs.Pairs.{pair_count}
 use Rattle.rows.specs.Maps.{is_map}
 use Rattle.rows.specs.Files.{with_model}
@@ -86,9 +86,9 @@ module _ (a b : Model) where
     unfolding find_among find_paired
     among_settles pairs = by_pairs (pairs_from (pair_count pairs) a b pairs 0) refl
       where
-        by_pairs : (p : Pair) → pairs_from (pair_count pairs) a b pairs 0 ≡ p → Settled (find_among a b pairs budget)
-        by_pairs (pair.Bad r) e = rw (e, find_among, find_paired) tt
-        by_pairs pair.Good e = rw (e, find_among, find_paired) (searched_decides (partners_of a b pairs))
+        by_pairs : (p : Result (Unit {0}) Refusal) → pairs_from (pair_count pairs) a b pairs 0 ≡ p → Settled (find_among a b pairs budget)
+        by_pairs (Err r) e = rw (e, find_among, find_paired) tt
+        by_pairs (Ok u) e = rw (e, find_among, find_paired) (searched_decides (partners_of a b pairs))
 
     module _ (pairs : List ℕ) (room work : ℕ) where
       abbrev ModelsSettle : Type 0

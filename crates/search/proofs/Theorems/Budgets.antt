@@ -8,6 +8,7 @@ use mathlib.Core.List.{List}
 use native.Mathlib.Omega.{arith}
 use lib.ListN.{length}
 use lib.Dec.{eqb, ltb}
+use Rattle.std.proofs.Common.{Result, Ok, Err}
 use Rattle.lists.proofs.Laws.Tests.{split}
 use Rattle.stored.specs.declared.refusal.Refusal.{Refusal}
 use Rattle.stored.specs.declared.refusal.Refusal.TheVariants.{NoRoom, NotCanonical, SignaturesDiffer, OddPairs, NotAMap, Malformed}
@@ -15,8 +16,6 @@ use Rattle.stored.specs.Model.{Model, size}
 use Rattle.stored.specs.Parse.{Parsed, model, fault, parse}
 use Rattle.stored.specs.Canonical.{canonical}
 use Rattle.stored.specs.Signature.{signature, same_signature}
-use Rattle.rows.specs.declared.pairs.Pair.{Pair}
-use Rattle.rows.specs.declared.pairs.Pair.TheVariants as pair
 use Rattle.rows.specs.Pairs.{pair_count}
 use Rattle.rows.specs.Maps.{is_map}
 use Rattle.rows.specs.Files.{with_model}
@@ -100,9 +99,9 @@ module _ (a b : Model) where
   unfolding find_among find_paired
   among_steady pairs = by_pairs (pairs_from (pair_count pairs) a b pairs 0) refl
     where
-      by_pairs : (p : Pair) → pairs_from (pair_count pairs) a b pairs 0 ≡ p → Steady (find_among a b pairs)
-      by_pairs (pair.Bad r) e = same_steady _ _ (λ (budget : ℕ). rw (e, find_among, find_paired)) (refused_steady r)
-      by_pairs pair.Good e = same_steady _ _ (λ (budget : ℕ). rw (e, find_among, find_paired)) (searched_steady (partners_of a b pairs))
+      by_pairs : (p : Result (Unit {0}) Refusal) → pairs_from (pair_count pairs) a b pairs 0 ≡ p → Steady (find_among a b pairs)
+      by_pairs (Err r) e = same_steady _ _ (λ (budget : ℕ). rw (e, find_among, find_paired)) (refused_steady r)
+      by_pairs (Ok u) e = same_steady _ _ (λ (budget : ℕ). rw (e, find_among, find_paired)) (searched_steady (partners_of a b pairs))
 
   module _ (pairs : List ℕ) (room work : ℕ) where
     abbrev Models : ℕ → Outcome

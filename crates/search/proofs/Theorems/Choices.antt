@@ -5,9 +5,10 @@ use mathlib.Core.Path.{◌≡◌}
 use mathlib.Core.List.{List, [], ◌∷◌}
 use native.Mathlib.Omega.{arith}
 use lib.ListN.{length, set}
+use Rattle.std.specs.Prelude.{Some}
 use Rattle.stored.specs.Model.{Model}
 use Rattle.rounds.specs.Round.{reps, Sides, stable, round_outcome, colour_count}
-use Rattle.rounds.specs.Classes.{open_at, smallest_open}
+use Rattle.rounds.specs.Classes.{smallest_open}
 use Rattle.rounds.proofs.Theorems.Classes.{again_raises, stable_keeps, open_some, open_below, trial_raises}
 use Rattle.search.specs.Machine.{Choice, State, refine, close, choose, done, open_in, choice_at, gone_on, tried, Reached}
 use Rattle.search.specs.Find.{start_from}
@@ -58,7 +59,7 @@ module _ (a b : Model) where
   has_gone_on e y ys choices h q = record { opened = still_opened a b e y ys h.opened q; some = h.some; fewer = h.fewer; above = h.above }
 
   just_risen :
-      (c d : Sides) (k : ℕ) (choices : List Choice) → Above (colour_count a c.left) choices → round_outcome a b c ≡ stable d → smallest_open a d.left ≡ open_at k
+      (c d : Sides) (k : ℕ) (choices : List Choice) → Above (colour_count a c.left) choices → round_outcome a b c ≡ stable d → smallest_open a d.left ≡ Some k
       → Risen (choice_at a b d k) choices
   unfolding choice_at
   just_risen c d k choices h e q = record {

@@ -9,11 +9,12 @@ use native.Mathlib.Omega.{arith}
 use native.Mathlib.Decide.{ℕ_discrete}
 use lib.ListN.{length, set}
 use lib.Seq.{get_or-set_same, get_or-set_other}
+use Rattle.std.specs.Prelude.{Some}
 use Rattle.stored.specs.Model.{Model, size}
 use Rattle.rows.proofs.Theorems.Among.{entry_of}
 use Rattle.rounds.specs.Colours.{no_colour, colour_at}
 use Rattle.rounds.specs.Round.{reps, Sides, round, stable, round_outcome, colour_count, equal_counts}
-use Rattle.rounds.specs.Classes.{open_at, smallest_open}
+use Rattle.rounds.specs.Classes.{smallest_open}
 use Rattle.rounds.proofs.Theorems.Keys.{on_left, on_right, reps_below_lem}
 use Rattle.rounds.proofs.Theorems.Refining.{across_refines}
 use Rattle.rounds.proofs.Theorems.Counts.{colour_below}
@@ -68,7 +69,7 @@ module _ (a b : Model) (start : Sides) where
     right_below = λ y m. colour_below a b c r.1 on_right y m;
   })
 
-  finer_opened : (c d : Sides) (k : ℕ) → FinerThan a b start c → round_outcome a b c ≡ stable d → smallest_open a d.left ≡ open_at k → FinerChoice a b start (choice_at a b d k)
+  finer_opened : (c d : Sides) (k : ℕ) → FinerThan a b start c → round_outcome a b c ≡ stable d → smallest_open a d.left ≡ Some k → FinerChoice a b start (choice_at a b d k)
   unfolding choice_at
   finer_opened c d k h e q =
       let r = stable_round a b c d e in

@@ -7,11 +7,12 @@ use mathlib.Core.Bool.{Bool, true, false}
 use mathlib.Core.List.{List, [], ◌∷◌}
 use lib.Dec.{leb, eqb}
 use borrow.Author.Tests.{leb-true, leb-false, eqb-true, eqb-false}
+use Rattle.std.specs.Prelude.{Option, None, Some}
 use Rattle.lists.proofs.Laws.Tests.{split}
 use Rattle.stored.specs.Model.{Model}
 use Rattle.rounds.specs.Colours.{colour_at}
 use Rattle.rounds.specs.Round.{Sides, Outcome, dead, stable, again, round_outcome}
-use Rattle.rounds.specs.Classes.{Open, all_single, open_at, smallest_open}
+use Rattle.rounds.specs.Classes.{smallest_open}
 use Rattle.search.specs.Machine.{Choice, State, refine, close, choose, done, Step, there, nowhere, takes}
 use Rattle.search.specs.Machine.{map_of, closes, choice_at, after_stable, after_round, after_closing, gone_on, tried, try_candidate, next_choice, step, Reached, here, next, Ended, found, none, exhausted, run}
 use Rattle.search.proofs.Laws.Run.{run_there, run_nowhere, run_takes, run_short, run_out}
@@ -21,8 +22,8 @@ pub record Kept (a b : Model) (Holds : State → Type 0) : Type 0 where
   pub dead_end : (c : Sides) (choices : List Choice) → Holds (refine c choices) → round_outcome a b c ≡ dead → Holds (choose choices)
   pub goes_on : (c d : Sides) (choices : List Choice) → Holds (refine c choices) → round_outcome a b c ≡ again d → Holds (refine d choices)
   pub opens :
-      (c d : Sides) (k : ℕ) (choices : List Choice) → Holds (refine c choices) → round_outcome a b c ≡ stable d → smallest_open a d.left ≡ open_at k → Holds (choose (choice_at a b d k ∷ choices))
-  pub all_single_lem : (c d : Sides) (choices : List Choice) → Holds (refine c choices) → round_outcome a b c ≡ stable d → smallest_open a d.left ≡ all_single → Holds (close d choices)
+      (c d : Sides) (k : ℕ) (choices : List Choice) → Holds (refine c choices) → round_outcome a b c ≡ stable d → smallest_open a d.left ≡ Some k → Holds (choose (choice_at a b d k ∷ choices))
+  pub all_single_lem : (c d : Sides) (choices : List Choice) → Holds (refine c choices) → round_outcome a b c ≡ stable d → smallest_open a d.left ≡ None → Holds (close d choices)
   pub closing_passes : (c : Sides) (choices : List Choice) → Holds (close c choices) → closes a b (map_of a b c) ≡ true → Holds (done (map_of a b c))
   pub closing_fails : (c : Sides) (choices : List Choice) → Holds (close c choices) → closes a b (map_of a b c) ≡ false → Holds (choose choices)
   pub used_up : (e : Choice) (choices : List Choice) → Holds (choose (e ∷ choices)) → e.rest ≡ [] → Holds (choose choices)
@@ -50,9 +51,9 @@ module _ (a b : Model) (Holds : State → Type 0) (kept : Kept a b Holds) where
   after_round_lem c choices h (again d) e = kept.goes_on c d choices h e
   after_round_lem c choices h (stable d) e = by_class (smallest_open a d.left) refl
     where
-      by_class : (o : Open) → smallest_open a d.left ≡ o → Holds (after_stable a b d choices o)
-      by_class all_single q = kept.all_single_lem c d choices h e q
-      by_class (open_at k) q = kept.opens c d k choices h e q
+      by_class : (o : Option ℕ) → smallest_open a d.left ≡ o → Holds (after_stable a b d choices o)
+      by_class None q = kept.all_single_lem c d choices h e q
+      by_class (Some k) q = kept.opens c d k choices h e q
 
   after_closing_lem : (c : Sides) (choices : List Choice) → Holds (close c choices) → (t : Bool) → closes a b (map_of a b c) ≡ t → Holds (after_closing choices (map_of a b c) t)
   unfolding after_closing

@@ -13,6 +13,7 @@ use borrow.Author.Tests.{eqb-true, eq-eqb}
 use lib.ListN.{length, set}
 use lib.Seq.{get_or-set_same, get_or-set_other}
 use lib.Dec.{eqb}
+use Rattle.std.specs.Prelude.{None, Some}
 use Rattle.lists.specs.First.{lowest}
 use Rattle.lists.proofs.Laws.Tests.{clash, and_left, and_right, and_both}
 use Rattle.lists.proofs.Laws.Entries.{entry_at_lem}
@@ -23,7 +24,7 @@ use Rattle.stored.proofs.Laws.WellFormed.{WellFormed}
 use Rattle.rows.proofs.Theorems.Among.{entry_of}
 use Rattle.rounds.specs.Colours.{no_colour, colour_at}
 use Rattle.rounds.specs.Round.{reps, Sides, round, dead, stable, again, round_outcome}
-use Rattle.rounds.specs.Classes.{all_single, open_at, smallest_open, lowest_of}
+use Rattle.rounds.specs.Classes.{smallest_open, lowest_of}
 use Rattle.lists.proofs.Laws.Counting.{perm_mem}
 use Rattle.rounds.proofs.Theorems.Keys.{reps_below_lem, reps_rep, rep_reps}
 use Rattle.rounds.proofs.Theorems.Alive.{Carries, Agrees, round_agrees, round_equal}
@@ -106,7 +107,7 @@ module _ (a b : Model) (f : ℕ → ℕ) (carries : Carries a b f) where
   after_again c d choices (inl h) e = inl (after_agrees c d h (again_round a b c d e).0)
   after_again c d choices (inr k) e = inr k
 
-  alive_opened : (c d : Sides) (k : ℕ) → Agrees a f d → round a b c ≡ d → smallest_open a d.left ≡ open_at k → AliveChoice a b f (choice_at a b d k)
+  alive_opened : (c d : Sides) (k : ℕ) → Agrees a f d → round a b c ≡ d → smallest_open a d.left ≡ Some k → AliveChoice a b f (choice_at a b d k)
   unfolding choice_at
   alive_opened c d k h e q =
       let low = open_lowest a d.left k q in
@@ -120,16 +121,16 @@ module _ (a b : Model) (f : ℕ → ℕ) (carries : Carries a b f) where
       }
 
   after_opened :
-      (c d : Sides) (k : ℕ) (choices : List Choice) → AliveState a b f (refine c choices) → round_outcome a b c ≡ stable d → smallest_open a d.left ≡ open_at k
+      (c d : Sides) (k : ℕ) (choices : List Choice) → AliveState a b f (refine c choices) → round_outcome a b c ≡ stable d → smallest_open a d.left ≡ Some k
       → AliveAmong a b f (choice_at a b d k ∷ choices)
   after_opened c d k choices (inl h) e q = let r = (stable_round a b c d e).0 in inl (alive_opened c d k (after_agrees c d h r) r q)
   after_opened c d k choices (inr i) e q = inr i
 
   after_single :
-      (c d : Sides) (choices : List Choice) → AliveState a b f (refine c choices) → round_outcome a b c ≡ stable d → smallest_open a d.left ≡ all_single → AliveState a b f (close d choices)
+      (c d : Sides) (choices : List Choice) → AliveState a b f (refine c choices) → round_outcome a b c ≡ stable d → smallest_open a d.left ≡ None → AliveState a b f (close d choices)
   after_single c d choices (inl h) e q =
       let r = stable_round a b c d e in
-      let single = subst (λ (s : Sides). smallest_open a s.left ≡ all_single) (sym r.0) q in
+      let single = subst (λ (s : Sides). smallest_open a s.left ≡ None) (sym r.0) q in
       inl (after_agrees c d h r.0, subst (λ (s : Sides). TellsApart a s.left) r.0 (single_left a b c r.1 single))
   after_single c d choices (inr i) e q = inr i
 

@@ -10,13 +10,12 @@ use native.Mathlib.Decide.{ℕ_discrete}
 use borrow.Author.Tests.{eq-eqb}
 use lib.ListN.{length, get_or, set, length-set}
 use lib.Seq.{get_or-set_same, get_or-set_other}
+use Rattle.std.proofs.Common.{Result, Ok, Err}
 use Rattle.lists.proofs.Laws.Tests.{split}
 use Rattle.lists.proofs.Laws.Tests as tests
 use Rattle.stored.specs.declared.refusal.Refusal.{Refusal}
 use Rattle.stored.specs.Model.{Model, size}
 use Rattle.stored.proofs.Laws.WellFormed.{WellFormed}
-use Rattle.rows.specs.declared.pairs.Pair.{Pair}
-use Rattle.rows.specs.declared.pairs.Pair.TheVariants as pair
 use Rattle.rows.specs.Pairs.{pair_count, left_at, right_at, pair_at, conflicts}
 use Rattle.rows.specs.Check.{blank}
 use Rattle.rows.proofs.Laws.Pairs.{conflicts_none, conflicts_given}
@@ -35,16 +34,16 @@ pub record FirstBad (a b : Model) (pairs : List ℕ) (left i : ℕ) (r : Refusal
   pub from : i ≤ place
   pub within : place < i + left
   pub before : (j : ℕ) → i ≤ j → j < place → GoodPair a b pairs j
-  pub bad : pair_at a b pairs place ≡ pair.Bad r
+  pub bad : pair_at a b pairs place ≡ Err r
 
 module _ (a b : Model) (pairs : List ℕ) where
-  abbrev PairsKnown : ℕ → ℕ → Pair → Type 0
-  PairsKnown left i pair.Good = (j : ℕ) → i ≤ j → j < i + left → GoodPair a b pairs j
-  PairsKnown left i (pair.Bad r) = FirstBad a b pairs left i r
+  abbrev PairsKnown : ℕ → ℕ → Result (Unit {0}) Refusal → Type 0
+  PairsKnown left i (Ok u) = (j : ℕ) → i ≤ j → j < i + left → GoodPair a b pairs j
+  PairsKnown left i (Err r) = FirstBad a b pairs left i r
 
-  one_more : (left i : ℕ) → GoodPair a b pairs i → (p : Pair) → PairsKnown left (i + 1) p → PairsKnown (suc left) i p
-  one_more left i g pair.Good k = λ j l u. by_cases (ℕ_discrete j i) (λ e. subst (GoodPair a b pairs) (sym e) g) (λ ne. k j (omega arith) (omega arith))
-  one_more left i g (pair.Bad r) k = record {
+  one_more : (left i : ℕ) → GoodPair a b pairs i → (p : Result (Unit {0}) Refusal) → PairsKnown left (i + 1) p → PairsKnown (suc left) i p
+  one_more left i g (Ok u) k = λ j l u. by_cases (ℕ_discrete j i) (λ e. subst (GoodPair a b pairs) (sym e) g) (λ ne. k j (omega arith) (omega arith))
+  one_more left i g (Err r) k = record {
     place = k.place;
     from = omega (arith, k.from);
     within = omega (arith, k.within);
@@ -57,22 +56,22 @@ module _ (a b : Model) (pairs : List ℕ) where
   pairs_known zero i = λ j l u. absurd (omega arith)
   pairs_known (suc left) i = by_pair (pair_at a b pairs i) refl (pairs_known left (i + 1))
     where
-      by_pair : (p : Pair) → pair_at a b pairs i ≡ p → PairsKnown left (i + 1) (pairs_from left a b pairs (i + 1)) → PairsKnown (suc left) i (pairs_from (suc left) a b pairs i)
-      by_pair (pair.Bad r) e ih = rw (e, pairs_from) (record { place = i; from = omega arith; within = omega arith; before = λ j l u. absurd (omega arith); bad = e })
-      by_pair pair.Good e ih = rw (e, pairs_from) (one_more left i (good_pair a b pairs i e) (pairs_from left a b pairs (i + 1)) ih)
+      by_pair : (p : Result (Unit {0}) Refusal) → pair_at a b pairs i ≡ p → PairsKnown left (i + 1) (pairs_from left a b pairs (i + 1)) → PairsKnown (suc left) i (pairs_from (suc left) a b pairs i)
+      by_pair (Err r) e ih = rw (e, pairs_from) (record { place = i; from = omega arith; within = omega arith; before = λ j l u. absurd (omega arith); bad = e })
+      by_pair (Ok u) e ih = rw (e, pairs_from) (one_more left i (good_pair a b pairs i e) (pairs_from left a b pairs (i + 1)) ih)
 
-  pub all_good : pairs_from (pair_count pairs) a b pairs 0 ≡ pair.Good → AllGood a b pairs
+  pub all_good : pairs_from (pair_count pairs) a b pairs 0 ≡ Ok tt → AllGood a b pairs
   all_good e j l = subst (PairsKnown (pair_count pairs) 0) e (pairs_known (pair_count pairs) 0) j (omega arith) (omega arith)
 
-  pub first_bad : (r : Refusal) → pairs_from (pair_count pairs) a b pairs 0 ≡ pair.Bad r → FirstBad a b pairs (pair_count pairs) 0 r
+  pub first_bad : (r : Refusal) → pairs_from (pair_count pairs) a b pairs 0 ≡ Err r → FirstBad a b pairs (pair_count pairs) 0 r
   first_bad r e = subst (PairsKnown (pair_count pairs) 0) e (pairs_known (pair_count pairs) 0)
 
-  are_good_from : (left i : ℕ) → ((j : ℕ) → i ≤ j → j < i + left → GoodPair a b pairs j) → pairs_from left a b pairs i ≡ pair.Good
+  are_good_from : (left i : ℕ) → ((j : ℕ) → i ≤ j → j < i + left → GoodPair a b pairs j) → pairs_from left a b pairs i ≡ Ok tt
   unfolding pairs_from
   are_good_from zero i h = refl
   are_good_from (suc left) i h = rw (is_good a b pairs i (h i (omega arith) (omega arith)), pairs_from) (are_good_from left (i + 1) (λ j l u. h j (omega arith) (omega arith)))
 
-  pub are_good : AllGood a b pairs → pairs_from (pair_count pairs) a b pairs 0 ≡ pair.Good
+  pub are_good : AllGood a b pairs → pairs_from (pair_count pairs) a b pairs 0 ≡ Ok tt
   are_good h = are_good_from (pair_count pairs) 0 (λ j l u. h j (omega arith))
 
 -- two pairs with one class on a side and two on the other

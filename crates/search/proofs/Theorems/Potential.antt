@@ -9,13 +9,14 @@ use native.Mathlib.Omega.{arith}
 use native.Mathlib.Nat.{mul-le-mul, suc-mul}
 use lib.ListN.{length, set}
 use lib.Dec.{eqb}
+use Rattle.std.specs.Prelude.{Option, None, Some}
 use Rattle.lists.specs.Every.{how_many}
 use Rattle.lists.proofs.Laws.Tests.{split}
 use Rattle.lists.proofs.Laws.Counting.{how_many_none, how_many_yes, how_many_no}
 use Rattle.stored.specs.Model.{Model}
 use Rattle.rounds.specs.Colours.{colour_at}
 use Rattle.rounds.specs.Round.{reps, Sides, Outcome, dead, stable, again, colour_count, round_outcome}
-use Rattle.rounds.specs.Classes.{Open, all_single, open_at, smallest_open, lowest_of}
+use Rattle.rounds.specs.Classes.{smallest_open, lowest_of}
 use Rattle.rounds.proofs.Theorems.Classes.{count_fits, again_raises, stable_keeps, open_below, trial_raises}
 use Rattle.rounds.proofs.Theorems.Members.{class_room, as_many_right}
 use Rattle.search.specs.Machine.{Choice, State, refine, close, choose, done, Step, there, nowhere, takes}
@@ -93,7 +94,7 @@ module _ (a : Model) where
 
   module _ (b : Model) (as_many : length (reps b) ≡ length (reps a)) where
     -- a stable round opens a choice: its class has at most one more member than colours are lacking, and a trial has one colour more
-    module _ (c d : Sides) (k : ℕ) (is-stable : round_outcome a b c ≡ stable d) (is_open : smallest_open a d.left ≡ open_at k) where
+    module _ (c d : Sides) (k : ℕ) (is-stable : round_outcome a b c ≡ stable d) (is_open : smallest_open a d.left ≡ Some k) where
       abbrev lacking : ℕ
       lacking = length (reps a) - suc (colour_count a d.left)
 
@@ -142,9 +143,9 @@ module _ (a : Model) where
     round_lowers c choices (again d) e = omega (arith, again_lowers c d e)
     round_lowers c choices (stable d) e = by_class (smallest_open a d.left) refl
       where
-        by_class : (o : Open) → smallest_open a d.left ≡ o → 1 + potential (after_stable a b d choices o) ≤ colours_take c.left + choices_take choices
-        by_class all_single q = omega (arith, colours_two c.left)
-        by_class (open_at k) q = opening_lowers c d k e q choices
+        by_class : (o : Option ℕ) → smallest_open a d.left ≡ o → 1 + potential (after_stable a b d choices o) ≤ colours_take c.left + choices_take choices
+        by_class None q = omega (arith, colours_two c.left)
+        by_class (Some k) q = opening_lowers c d k e q choices
 
     -- every step
     pub step_lowers : (s : State) → Lowers (potential s) (step 1 a b s)

@@ -10,6 +10,7 @@ use native.Mathlib.Decide.{dec_le}
 use borrow.Author.Tests.{eqb-true, eq-eqb}
 use lib.ListN.{length, get_or-eq_default}
 use lib.Dec.{eqb}
+use Rattle.std.specs.Prelude.{None}
 use Rattle.lists.specs.First.{lowest}
 use Rattle.lists.proofs.Laws.Tests.{and_left, and_right, and_both}
 use Rattle.lists.proofs.Laws.First.{lowest_passes}
@@ -20,7 +21,7 @@ use Rattle.stored.proofs.Laws.WellFormed.{WellFormed}
 use Rattle.rows.proofs.Theorems.Among.{entry_of}
 use Rattle.rounds.specs.Colours.{colour_at}
 use Rattle.rounds.specs.Round.{reps, Sides, round, equal_counts}
-use Rattle.rounds.specs.Classes.{all_single, smallest_open}
+use Rattle.rounds.specs.Classes.{smallest_open}
 use Rattle.rounds.proofs.Theorems.Keys.{reps_below_lem, reps_rep, rep_reps}
 use Rattle.rounds.proofs.Theorems.Alive.{Carries}
 use Rattle.rounds.proofs.Theorems.Carrying.{CarriesSets, sets_carry}
@@ -78,8 +79,8 @@ settled_matching a b c s = subst (Matching a b) r.0 (record {
     r : (round a b s.before ≡ c) × (equal_counts a b (round a b s.before) ≡ true)
     r = stable_round a b s.before c s.was_stable
 
-    single : smallest_open a (round a b s.before).left ≡ all_single
-    single = subst (λ (d : Sides). smallest_open a d.left ≡ all_single) (sym r.0) s.was_single
+    single : smallest_open a (round a b s.before).left ≡ None
+    single = subst (λ (d : Sides). smallest_open a d.left ≡ None) (sym r.0) s.was_single
 
 module _ (a b : Model) (c : Sides) (matching : Matching a b c) where
   map_to_rep : (x : ℕ) → Memᴰ x (reps a) → Memᴰ (entry_of (map_of a b c) x) (reps b)

@@ -6,10 +6,11 @@ use mathlib.Core.Logic.{◌⊎◌, inl, inr}
 use mathlib.Core.Bool.{true, false}
 use mathlib.Core.List.{List, [], ◌∷◌, ◌++◌}
 use native.Mathlib.Omega.{arith}
+use Rattle.std.specs.Prelude.{None, Some}
 use Rattle.lists.proofs.Laws.Tests.{split}
 use Rattle.stored.specs.Model.{Model}
 use Rattle.rounds.specs.Round.{reps, Sides, stable, round_outcome, colour_count}
-use Rattle.rounds.specs.Classes.{all_single, open_at, smallest_open, lowest_of}
+use Rattle.rounds.specs.Classes.{smallest_open, lowest_of}
 use Rattle.search.specs.Machine.{Choice, State, refine, close, choose, done, map_of, closes, choice_at, gone_on, found, none, run, Reached}
 use Rattle.search.specs.Partners.{Partners, partners, clash}
 use Rattle.search.specs.Find.{round_cost, alike, start_from, searched}
@@ -20,7 +21,7 @@ module _ (a b : Model) where
   pub record SingleStable (c : Sides) : Type 0 where
     pub before : Sides
     pub was_stable : round_outcome a b before ≡ stable c
-    pub was_single : smallest_open a c.left ≡ all_single
+    pub was_single : smallest_open a c.left ≡ None
 
   -- a map that passed the closing check
   pub record Closed (f : List ℕ) : Type 0 where
@@ -33,7 +34,7 @@ module _ (a b : Model) where
   pub record Opened (e : Choice) : Type 0 where
     pub before : Sides
     pub was_stable : round_outcome a b before ≡ stable e.sides
-    pub was_open : smallest_open a e.sides.left ≡ open_at e.old
+    pub was_open : smallest_open a e.sides.left ≡ Some e.old
     pub its_element : e.element ≡ lowest_of a e.sides.left e.old
     pub its_new : e.new ≡ colour_count a e.sides.left
     pub looked_at : List ℕ
@@ -49,7 +50,7 @@ module _ (a b : Model) where
   SoundState (choose choices) = AllOpened choices
   SoundState (done f) = Closed f
 
-  pub just_opened : (c d : Sides) (k : ℕ) → round_outcome a b c ≡ stable d → smallest_open a d.left ≡ open_at k → Opened (choice_at a b d k)
+  pub just_opened : (c d : Sides) (k : ℕ) → round_outcome a b c ≡ stable d → smallest_open a d.left ≡ Some k → Opened (choice_at a b d k)
   unfolding choice_at
   just_opened c d k e q = record { before = c; was_stable = e; was_open = q; its_element = refl; its_new = refl; looked_at = []; its_rest = refl }
 

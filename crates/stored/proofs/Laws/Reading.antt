@@ -8,15 +8,14 @@ use lib.ListN.{length, get_or, replicate, length-map, get_or-map}
 use Rattle.lists.specs.Numbers.{sum}
 use Rattle.lists.specs.Part.{part}
 use Rattle.lists.proofs.Laws.Over.{get_d_over}
+use Rattle.std.proofs.Common.{Ok, Err}
 use Rattle.stored.specs.declared.refusal.Fault.{Fault}
 use Rattle.stored.specs.declared.layout.Layout.{Layout}
-use Rattle.stored.specs.declared.read.Answer.TheVariants as answer
-use Rattle.stored.specs.declared.read.Reading.{Reading}
 use Rattle.stored.specs.Limits.{max_relations, max_cells}
 use Rattle.stored.specs.Model.{Rel, Model, size, no_relation, relation_at}
 use Rattle.stored.specs.Parse.{Parsed, model, fault, parse}
 use Rattle.stored.specs.Layout.{arity, count, table, rows_from, layout_of}
-use Rattle.stored.specs.Reading.{refused_with, reading_of, model_in, model_of, Reads}
+use Rattle.stored.specs.Reading.{reading_of, model_in, model_of, Reads}
 use Rattle.stored.proofs.Laws.Layout.{length_rows_from}
 use Rattle.stored.proofs.Laws.Parse.{Accepted, parse_accepted}
 use Rattle.stored.proofs.Laws.WellFormed.{WellFormed, well_formed, Stands, RestFormed, rest_formed}
@@ -26,28 +25,28 @@ pub table_entry : (xs : List ℕ) (k : ℕ) → k < length xs → get_or (table 
 unfolding table
 table_entry xs k h = get_d_over xs (replicate 16 0) k 0 h
 
--- a reading that answers a model makes the file one that was read
-pub reading_reads : (s : List ℕ) (r : Reading) → r ≡ reading_of (parse s) → r.answer ≡ answer.Model → Reads s r.layout
-unfolding reading_of model_in refused_with
-reading_reads s r e h = go (parse s) refl
+-- a layout that reading answers makes the file one that was read
+pub reading_reads : (s : List ℕ) (l : Layout) → Ok l ≡ reading_of (parse s) → Reads s l
+unfolding reading_of model_in
+reading_reads s l e = go (parse s) refl
   where
-    go : (p : Parsed) → parse s ≡ p → Reads s r.layout
-    go (model m) q = record { accepted = rw q; there = ap (λ (x : Reading). x.layout) (rw q at e) ∙ rw q }
-    go (fault f) q = let z : answer.Fault f ≡ answer.Model = sym (ap (λ (x : Reading). x.answer) (rw q at e)) ∙ h in let y : ◌≡◌ {A = ℕ} 0 1 = cc in absurd (omega arith)
+    go : (p : Parsed) → parse s ≡ p → Reads s l
+    go (model m) q = let h : l ≡ layout_of m = cc (rw q at e) in record { accepted = rw q; there = h ∙ rw q }
+    go (fault f) q = let y : ◌≡◌ {A = ℕ} 0 1 = cc (rw q at e) in absurd (omega arith)
 
 -- a file that was parsed is one that was read, with its model's layout
 pub model_reads : (s : List ℕ) (m : Model) → parse s ≡ model m → Reads s (layout_of m)
 unfolding model_in
 model_reads s m e = let k : model_of s ≡ m = rw e in record { accepted = e ∙ ap model (sym k); there = ap layout_of (sym k) }
 
--- a reading that answers a fault is one of a file with that fault
-pub reading_faults : (s : List ℕ) (r : Reading) (f : Fault) → r ≡ reading_of (parse s) → r.answer ≡ answer.Fault f → parse s ≡ fault f
-unfolding reading_of refused_with
-reading_faults s r f e h = go (parse s) refl
+-- a fault that reading answers is that of the file
+pub reading_faults : (s : List ℕ) (f : Fault) → Err f ≡ reading_of (parse s) → parse s ≡ fault f
+unfolding reading_of
+reading_faults s f e = go (parse s) refl
   where
     go : (p : Parsed) → parse s ≡ p → parse s ≡ fault f
-    go (model m) q = let z : answer.Model ≡ answer.Fault f = sym (ap (λ (x : Reading). x.answer) (rw q at e)) ∙ h in let y : ◌≡◌ {A = ℕ} 0 1 = cc in absurd (omega arith)
-    go (fault g) q = let z : answer.Fault g ≡ answer.Fault f = sym (ap (λ (x : Reading). x.answer) (rw q at e)) ∙ h in q ∙ cc
+    go (model m) q = let y : ◌≡◌ {A = ℕ} 0 1 = cc (rw q at e) in absurd (omega arith)
+    go (fault g) q = let h : f ≡ g = cc (rw q at e) in q ∙ ap fault (sym h)
 
 -- where a relation stands
 pub record RelationThere (s : List ℕ) (l : Layout) (k : ℕ) (r : Rel) : Type 0 where

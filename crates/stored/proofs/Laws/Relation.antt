@@ -12,10 +12,12 @@ use Rattle.lists.specs.Every.{all}
 use Rattle.lists.specs.Numbers.{sum}
 use Rattle.lists.specs.Order.{ascending}
 use Rattle.lists.proofs.Laws.Tests.{split, and_left}
-use Rattle.stored.specs.declared.relation.Head.TheVariants as head
+use Rattle.std.proofs.Common.{Some, None}
+use Rattle.stored.specs.declared.relation.Shape.{Shape}
 use Rattle.stored.specs.Limits.{max_arity}
 use Rattle.stored.specs.Types.{type_in}
 use Rattle.stored.specs.Relation.{arity_of, columns_of, count_of, cells_of, rows_in, column_holds, entry_typed, row_typed, shape_holds, rows_hold, relation_holds, head_if, shape_of, head_of, Shaped}
+use Rattle.lists.proofs.Laws.Part.{length_part, part_ends, part_rest}
 
 module _ (sizes : List ℕ) (c : ℕ) where
   pub column_holds_lem : c < length sizes → column_holds sizes c ≡ true
@@ -76,39 +78,43 @@ module _ (room : ℕ) (v : List ℕ) where
       (of_one (leb (count_of v) 1) (leb 1 (arity_of v)) (⊎_map (le-leb (count_of v) 1) (le-leb 1 (arity_of v)) r.is_flat))
 
 -- what a head by a test tells: the test holds, and which arity and row count the value has
-pub record Headed (t : Bool) (v : List ℕ) (a c : ℕ) : Type 0 where
+pub record Headed (t : Bool) (v : List ℕ) (x : Shape) : Type 0 where
   pub holds : t ≡ true
-  pub is_arity : a ≡ arity_of v
-  pub is_count : c ≡ count_of v
+  pub is_arity : x.arity ≡ arity_of v
+  pub is_count : x.count ≡ count_of v
+
+-- the arity and row count of a value
+abbrev pub numbers_of : List ℕ → Shape
+numbers_of v = record { arity = arity_of v; count = count_of v }
 
 module _ (v : List ℕ) where
-  head_true : (t : Bool) → t ≡ true → head_if t v ≡ head.Rows (arity_of v) (count_of v)
+  head_true : (t : Bool) → t ≡ true → head_if t v ≡ Some (numbers_of v)
   unfolding head_if
   head_true t e = rw e
 
-  head_false : (t : Bool) → t ≡ false → head_if t v ≡ head.Broken
+  head_false : (t : Bool) → t ≡ false → head_if t v ≡ None
   unfolding head_if
   head_false t e = rw e
 
-  headed : (t : Bool) (a c : ℕ) → head_if t v ≡ head.Rows a c → Headed t v a c
+  headed : (t : Bool) (x : Shape) → head_if t v ≡ Some x → Headed t v x
   unfolding head_if
-  headed true a c e = record { holds = refl; is_arity = cc; is_count = cc }
-  headed false a c e = let z : ◌≡◌ {A = ℕ} 0 1 = cc in absurd (omega arith)
+  headed true x e = let f : numbers_of v ≡ x = cc in rw (← f) (record { holds = refl; is_arity = refl; is_count = refl })
+  headed false x e = let z : ◌≡◌ {A = ℕ} 0 1 = cc in absurd (omega arith)
 
-  head_broken : (t : Bool) → head_if t v ≡ head.Broken → t ≡ false
+  head_broken : (t : Bool) → head_if t v ≡ None → t ≡ false
   unfolding head_if
   head_broken true e = let z : ◌≡◌ {A = ℕ} 0 1 = cc in absurd (omega arith)
   head_broken false e = refl
 
-shaped : {t : Bool} {room : ℕ} {v : List ℕ} {a c : ℕ} → Headed t v a c → ShapeRules room v → Shaped v a c
+shaped : {t : Bool} {room : ℕ} {v : List ℕ} {x : Shape} → Headed t v x → ShapeRules room v → Shaped v x.arity x.count
 shaped h r = record { is_arity = h.is_arity; is_count = h.is_count; is_length = rw (h.is_arity, h.is_count) r.is_length }
 
 module _ (room : ℕ) (v : List ℕ) where
-  pub shape_head : ShapeRules room v → shape_of room v ≡ head.Rows (arity_of v) (count_of v)
+  pub shape_head : ShapeRules room v → shape_of room v ≡ Some (numbers_of v)
   unfolding shape_of
   shape_head r = head_true v (shape_holds room v) (rules_shape room v r)
 
-  pub shape_broken : (ShapeRules room v → ⊥) → shape_of room v ≡ head.Broken
+  pub shape_broken : (ShapeRules room v → ⊥) → shape_of room v ≡ None
   unfolding shape_of
   shape_broken n = head_false v (shape_holds room v) (fails (split (shape_holds room v)))
     where
@@ -116,12 +122,12 @@ module _ (room : ℕ) (v : List ℕ) where
       fails (inl e) = absurd (n (shape_rules room v e))
       fails (inr e) = e
 
-  module _ (a c : ℕ) (e : shape_of room v ≡ head.Rows a c) where
-    pub shape_headed : Headed (shape_holds room v) v a c
+  module _ (x : Shape) (e : shape_of room v ≡ Some x) where
+    pub shape_headed : Headed (shape_holds room v) v x
     unfolding shape_of
-    shape_headed = headed v (shape_holds room v) a c e
+    shape_headed = headed v (shape_holds room v) x e
 
-    pub shape_shaped : Shaped v a c
+    pub shape_shaped : Shaped v x.arity x.count
     shape_shaped = shaped shape_headed (shape_rules room v shape_headed.holds)
 
 -- the rules for the columns and rows, one after the other
@@ -140,28 +146,34 @@ module _ (sizes v : List ℕ) where
 
 -- all rules together
 module _ (sizes : List ℕ) (room : ℕ) (v : List ℕ) where
-  pub head_no_shape : shape_of room v ≡ head.Broken → head_of sizes room v ≡ head.Broken
+  pub head_no_shape : shape_of room v ≡ None → head_of sizes room v ≡ None
   unfolding head_of relation_holds shape_of
   head_no_shape e = rw (head_broken v (shape_holds room v) e) (head_false v false refl)
 
-  module _ (a c : ℕ) where
-    pub head_no_rows : shape_of room v ≡ head.Rows a c → rows_hold sizes v ≡ false → head_of sizes room v ≡ head.Broken
+  module _ (x : Shape) where
+    pub head_no_rows : shape_of room v ≡ Some x → rows_hold sizes v ≡ false → head_of sizes room v ≡ None
     unfolding head_of relation_holds
-    head_no_rows e f = rw ((shape_headed room v a c e).holds, f) (head_false v false refl)
+    head_no_rows e f = rw ((shape_headed room v x e).holds, f) (head_false v false refl)
 
-    pub head_all : shape_of room v ≡ head.Rows a c → rows_hold sizes v ≡ true → head_of sizes room v ≡ head.Rows a c
-    unfolding head_of relation_holds
-    head_all e f = let k = shape_headed room v a c e in rw (k.holds, f, k.is_arity, k.is_count) (head_true v true refl)
+    pub head_all : shape_of room v ≡ Some x → rows_hold sizes v ≡ true → head_of sizes room v ≡ Some x
+    unfolding head_of relation_holds shape_of
+    head_all e f = rw ((shape_headed room v x e).holds, f) (rw (shape_headed room v x e).holds at e)
 
     -- what holds of a value with a head
-    module _ (e : head_of sizes room v ≡ head.Rows a c) where
-      pub head_headed : Headed (relation_holds sizes room v) v a c
+    module _ (e : head_of sizes room v ≡ Some x) where
+      pub head_headed : Headed (relation_holds sizes room v) v x
       unfolding head_of
-      head_headed = headed v (relation_holds sizes room v) a c e
+      head_headed = headed v (relation_holds sizes room v) x e
 
       pub head_rules : ShapeRules room v
       unfolding relation_holds
       head_rules = shape_rules room v (and_left (shape_holds room v) (rows_hold sizes v) head_headed.holds)
 
-      pub head_shaped : Shaped v a c
+      pub head_shaped : Shaped v x.arity x.count
       head_shaped = shaped head_headed head_rules
+
+-- the cases of `head_of`
+pub ruleset heads = (head_no_shape, head_no_rows, head_all)
+
+-- the columns and the rows of a value, handed on by their ends
+pub ruleset handed = (length_part, part_ends, part_rest)

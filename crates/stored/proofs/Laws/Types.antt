@@ -77,3 +77,6 @@ length_firsts x (n ∷ sizes) = rw (length_firsts (x + n) sizes)
 pub firsts_next : (sizes : List ℕ) (x t : ℕ) → t < length sizes → firsts_from x (drop t sizes) ≡ x ∷ firsts_from (x + get_or sizes t 0) (drop (t + 1) sizes)
 unfolding firsts_from
 firsts_next sizes x t h = rw (add-one t, drop-cons sizes t 0 h)
+
+-- the cases of `type_from`
+pub ruleset type_cases = (type_start, type_here, type_next, type_end)

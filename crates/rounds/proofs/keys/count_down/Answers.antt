@@ -1,49 +1,11 @@
-use mathlib.Core.Bool.{true≢false, false≢true}
-use native.Mathlib.Omega.{arith}
-use Rattle.rounds.proofs.Laws.Tables.{lowering_start, lowering_over, lowering_failed, lowering_more, met_small, met_room, table_room}
+use Rattle.rounds.proofs.Laws.Tables.{lowering_over, lowering_failed, lowering_more}
 use Rattle.rounds.proofs.keys.count_down.Goals as goal
-
-pub loop-i-init : goal.loop-i-init
-loop-i-init c = lowering_start _ _ _ c.requires
-
-pub overflow_add-at : goal.overflow_add-at
-overflow_add-at c = omega (arith, c.loop-i.invariant.along.on.few)
-
-pub offset_bounds-board-i : goal.offset_bounds-board-i
-offset_bounds-board-i c = omega (arith, c.loop-i.invariant.along.on.few)
-
-pub bounds-board-i : goal.bounds-board-i
-bounds-board-i c = met_room _ _ _ _ _ c.loop-i.invariant.along c.loop-i-test.true
-
-pub overflow_cast-at : goal.overflow_cast-at
-overflow_cast-at c = omega (arith, met_small _ _ _ _ _ c.loop-i.invariant.along c.loop-i-test.true)
-
-pub overflow_add-at-in-loop-i : goal.overflow_add-at-in-loop-i
-overflow_add-at-in-loop-i c = omega (arith, met_small _ _ _ _ _ c.loop-i.invariant.along c.loop-i-test.true)
-
-pub offset_bounds-board-at : goal.offset_bounds-board-at
-offset_bounds-board-at c = omega (arith, met_small _ _ _ _ _ c.loop-i.invariant.along c.loop-i-test.true)
-
-pub bounds-board-at : goal.bounds-board-at
-bounds-board-at c = table_room _ _ _ _ _ c.loop-i.invariant.along c.loop-i-test.true
-
-pub shape_of-board-then-count-eq0 : goal.shape_of-board-then-count-eq0
-shape_of-board-then-count-eq0 c = c.loop-i.invariant.along.only.length_kept
-
-pub returns-then-count-eq0 : goal.returns-then-count-eq0
-returns-then-count-eq0 c = record { enough = (λ e. absurd (false≢true e)); missing = (λ e. lowering_failed _ _ _ _ _ c.loop-i.invariant c.loop-i-test.true c.if-count-eq0.true); fewer = c.loop-i.invariant.fewer; kept = c.loop-i.invariant.along.only }
-
-pub offset_bounds-board-at-in-loop-i : goal.offset_bounds-board-at-in-loop-i
-offset_bounds-board-at-in-loop-i c = omega (arith, met_small _ _ _ _ _ c.loop-i.invariant.along c.loop-i-test.true)
-
-pub bounds-board-at-in-loop-i : goal.bounds-board-at-in-loop-i
-bounds-board-at-in-loop-i c = table_room _ _ _ _ _ c.loop-i.invariant.along c.loop-i-test.true
 
 pub loop-i-preserved : goal.loop-i-preserved
 loop-i-preserved c = lowering_more _ _ _ _ _ c.loop-i.invariant c.loop-i-test.true c.if-count-eq0.false
 
-pub shape_of-board : goal.shape_of-board
-shape_of-board c = c.loop-i.invariant.along.only.length_kept
+pub returns-then-count-eq0-clause-missing : goal.returns-then-count-eq0-clause-missing
+returns-then-count-eq0-clause-missing c = λ _. lowering_failed _ _ _ _ _ c.loop-i.invariant c.loop-i-test.true c.if-count-eq0.true
 
-pub returns : goal.returns
-returns c = record { enough = (λ e. lowering_over _ _ _ _ _ c.loop-i.invariant c.loop-i-test.false); missing = (λ e. absurd (true≢false e)); fewer = c.loop-i.invariant.fewer; kept = c.loop-i.invariant.along.only }
+pub returns-clause-enough : goal.returns-clause-enough
+returns-clause-enough c = λ _. lowering_over _ _ _ _ _ c.loop-i.invariant c.loop-i-test.false

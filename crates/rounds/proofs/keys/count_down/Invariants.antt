@@ -1,10 +1,6 @@
--- `rounds::keys::count_down` meets its contract. The invariant: the numbers before i were taken off the counts (`Lowering`); the measure is how many are left. Assumes nothing.
-use Prim.Native.Nat.{◌-◌}
+-- `rounds::keys::count_down` meets its contract. The invariant: the numbers before i were taken off the counts (`Lowering`). Assumes nothing.
 use Rattle.rounds.proofs.Laws.Tables.{Lowering}
 use Rattle.rounds.proofs.keys.count_down.Given as goal
 
 abbrev pub invariant-loop-i : goal.invariant-loop-i
 invariant-loop-i l = Lowering l.initial.board l.from l.end l.board l.i
-
-abbrev pub decreases-loop-i : goal.decreases-loop-i
-decreases-loop-i l = l.end - l.i

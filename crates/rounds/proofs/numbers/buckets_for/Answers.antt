@@ -8,7 +8,7 @@ pub returns-then-rows-le64 : goal.returns-then-rows-le64
 returns-then-rows-le64 c = sym (buckets_few _ 0 c.if-rows-le64.true)
 
 pub returns-then-rows-le512 : goal.returns-then-rows-le512
-returns-then-rows-le512 c = sym (buckets_some _ 0 (omega (arith, c.if-rows-le64.false)) c.if-rows-le512.true)
+returns-then-rows-le512 c = sym (buckets_some _ 0 (omega arith) c.if-rows-le512.true)
 
-pub returns : goal.returns
-returns c = sym (buckets_many _ 0 (omega (arith, c.if-rows-le512.false)))
+pub returns-else-rows-le512 : goal.returns-else-rows-le512
+returns-else-rows-le512 c = sym (buckets_many _ 0 (omega arith))

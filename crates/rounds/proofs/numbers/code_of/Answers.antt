@@ -1,27 +1,15 @@
-use native.Mathlib.Omega.{arith}
-use Rattle.rounds.proofs.numbers.code_of.Invariants.{start, done, more}
+use Prim.Native.Nat.{ℕ}
+use mathlib.Core.Path.{◌∙◌, ap}
+use mathlib.Core.List.{List}
+use Rattle.lists.proofs.Laws.Part.{part_ends}
+use Rattle.rounds.specs.Board.{colours_on, line_of, code_of}
+use Rattle.rounds.proofs.numbers.code_of.Invariants.{done, more}
 use Rattle.rounds.proofs.numbers.code_of.Goals as goal
 
-pub loop-j-init : goal.loop-j-init
-loop-j-init c = start _ _ _ c.requires.0 c.requires.1 c.requires.2
-
-pub overflow_add-p : goal.overflow_add-p
-overflow_add-p c = omega (arith, c.loop-j.invariant.fits, c.loop-j-test.true)
-
-pub bounds-board-p : goal.bounds-board-p
-bounds-board-p c = omega (arith, c.loop-j.invariant.fits, c.loop-j-test.true)
-
-pub colour_of-colour-requires : goal.colour_of-colour-requires
-colour_of-colour-requires c = (c.loop-j.invariant.room, c.loop-j.invariant.known _ c.loop-j-test.true)
-
-pub overflow_mul-code : goal.overflow_mul-code
-overflow_mul-code c = omega (arith, c.loop-j.invariant.small)
-
-pub overflow_add-code : goal.overflow_add-code
-overflow_add-code c = omega (arith, c.loop-j.invariant.small)
-
-pub loop-j-preserved : goal.loop-j-preserved
-loop-j-preserved c = more _ _ _ _ _ c.loop-j.invariant c.loop-j-test.true _ c.colour_of-colour.ensures
+pub loop-x-preserved : goal.loop-x-preserved
+loop-x-preserved c = more _ _ _ _ c.loop-x.invariant c.loop-x-test.true _ c.colour_of-colour.ensures
 
 pub returns : goal.returns
-returns c = done _ _ _ _ _ c.loop-j.invariant c.loop-j-test.false
+returns c =
+    let board = c.args.board.now in
+    done _ _ _ _ c.loop-x.invariant c.loop-x-test.false ∙ ap (λ (row : List ℕ). code_of (line_of (colours_on board) row)) (part_ends board c.args.p c.args.arity)

@@ -3,8 +3,5 @@ use native.Mathlib.Omega.{arith}
 use Rattle.rounds.proofs.Laws.Board.{colour_there}
 use Rattle.rounds.proofs.numbers.colour_of.Goals as goal
 
-pub bounds-board-x : goal.bounds-board-x
-bounds-board-x c = omega (arith, c.requires.0, c.requires.1)
-
 pub returns : goal.returns
 returns c = colour_there c.args.board.now c.args.x (omega (arith, c.requires.0, c.requires.1))

@@ -1,5 +1,5 @@
 use native.Mathlib.Omega.{arith}
-use Rattle.rounds.proofs.Laws.Buckets.{bucket_small, row_fits, row_known, head_small, walk_start, walk_over, at_fits, at_known, walk_less, link_small, walk_found, walk_more}
+use Rattle.rounds.proofs.Laws.Buckets.{bucket_small, row_fits, row_known, walk_start, walk_over, at_fits, at_known, walk_less, walk_found, walk_more}
 use Rattle.rounds.proofs.numbers.first_line.Invariants.{sought}
 use Rattle.rounds.proofs.numbers.first_line.Goals as goal
 
@@ -11,9 +11,6 @@ offset_bounds-board-bucket c = omega (arith, bucket_small _ _ _ _ _ _ _ (sought 
 
 pub bounds-board-bucket : goal.bounds-board-bucket
 bounds-board-bucket c = let p = c.requires in omega (arith, bucket_small _ _ _ _ _ _ _ (sought _ _ _ _ _ _ _ p), p.0)
-
-pub overflow_cast-q : goal.overflow_cast-q
-overflow_cast-q c = omega (arith, head_small _ _ _ _ _ _ _ (sought _ _ _ _ _ _ _ c.requires))
 
 pub loop-q-init : goal.loop-q-init
 loop-q-init c = walk_start _ _ _ _ _ _ _ (sought _ _ _ _ _ _ _ c.requires)
@@ -32,9 +29,6 @@ offset_bounds-board-at c = omega (arith, at_fits _ _ _ _ _ _ _ _ c.loop-q.invari
 
 pub bounds-board-at : goal.bounds-board-at
 bounds-board-at c = omega (arith, at_fits _ _ _ _ _ _ _ _ c.loop-q.invariant c.loop-q-test.true, c.loop-q.invariant.given.room, c.loop-q.invariant.given.wide)
-
-pub overflow_cast-q-in-loop-q : goal.overflow_cast-q-in-loop-q
-overflow_cast-q-in-loop-q c = omega (arith, link_small _ _ _ _ _ _ _ _ c.loop-q.invariant c.loop-q-test.true)
 
 pub loop-q-smaller : goal.loop-q-smaller
 loop-q-smaller c = walk_less _ _ _ _ _ _ _ _ c.loop-q.invariant c.loop-q-test.true

@@ -1,28 +1,13 @@
 use native.Mathlib.Omega.{arith}
 use Rattle.rounds.proofs.Laws.Numbering.{still_listed, still_empty}
-use Rattle.rounds.proofs.numbers.number_cells.Invariants.{start, done, few, fits, small, few_rows, more}
+use Rattle.rounds.proofs.numbers.number_cells.Invariants.{start, done, fits, small, few_rows, more}
 use Rattle.rounds.proofs.numbers.number_cells.Goals as goal
 
 pub loop-k-init : goal.loop-k-init
-loop-k-init c = let p = c.requires in start _ _ _ _ _ _ (p.0, p.1, p.2) p.3 p.4 p.5 p.6
-
-pub offset_bounds-in_left-k : goal.offset_bounds-in_left-k
-offset_bounds-in_left-k c = omega (arith, few _ _ _ _ _ _ _ _ _ c.loop-k.invariant c.loop-k-test.true)
-
-pub bounds-in_left-k : goal.bounds-in_left-k
-bounds-in_left-k c = few _ _ _ _ _ _ _ _ _ c.loop-k.invariant c.loop-k-test.true
-
-pub offset_bounds-in_left-k-in-loop-k : goal.offset_bounds-in_left-k-in-loop-k
-offset_bounds-in_left-k-in-loop-k c = omega (arith, few _ _ _ _ _ _ _ _ _ c.loop-k.invariant c.loop-k-test.true)
-
-pub bounds-in_left-k-in-loop-k : goal.bounds-in_left-k-in-loop-k
-bounds-in_left-k-in-loop-k c = few _ _ _ _ _ _ _ _ _ c.loop-k.invariant c.loop-k-test.true
-
-pub offset_bounds-in_right-k : goal.offset_bounds-in_right-k
-offset_bounds-in_right-k c = omega (arith, few _ _ _ _ _ _ _ _ _ c.loop-k.invariant c.loop-k-test.true)
-
-pub bounds-in_right-k : goal.bounds-in_right-k
-bounds-in_right-k c = few _ _ _ _ _ _ _ _ _ c.loop-k.invariant c.loop-k-test.true
+loop-k-init c =
+    let b = c.args.both.now in
+    let p = c.requires in
+    start _ _ _ _ _ _ (b.left.reads, b.right.reads, b.one_signature) p.0 p.1 p.2 p.3
 
 pub overflow_add-rows : goal.overflow_add-rows
 overflow_add-rows c = omega (arith, few_rows _ _ _ _ _ _ _ _ _ c.loop-k.invariant c.loop-k-test.true)
@@ -39,8 +24,5 @@ overflow_add-at c = omega (arith, small _ _ _ _ _ _ _ _ _ c.loop-k.invariant c.l
 pub loop-k-preserved : goal.loop-k-preserved
 loop-k-preserved c = more _ _ _ _ _ _ _ _ _ c.loop-k.invariant c.loop-k-test.true _ c.number_relation.ensures.numbers c.number_relation.ensures.kept
 
-pub shape_of-board : goal.shape_of-board
-shape_of-board c = c.loop-k.invariant.numbering.kept.length_kept
-
-pub returns : goal.returns
-returns c = record { numbers = done _ _ _ _ _ _ _ _ _ c.loop-k.invariant c.loop-k-test.false; kept = c.loop-k.invariant.numbering.kept }
+pub returns-clause-numbers : goal.returns-clause-numbers
+returns-clause-numbers c = done _ _ _ _ _ _ _ _ _ c.loop-k.invariant c.loop-k-test.false

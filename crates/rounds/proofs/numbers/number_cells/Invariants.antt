@@ -1,5 +1,5 @@
--- `rounds::numbers::number_cells` meets its contract. The invariant: the cells of the first k relations are numbered, and those of the others are still to be numbered (`Numbering`);
--- the measure is the number of relations left. Assumes nothing.
+-- `rounds::numbers::number_cells` meets its contract. The invariant: the cells of the first k relations are numbered, and those of the others are still to be numbered (`Numbering`).
+-- Assumes nothing.
 use Prim.Native.Nat.{ℕ, ◌+◌, ◌-◌, ◌*◌, ◌<◌, ◌≤◌}
 use mathlib.Core.Path.{◌≡◌, sym, ◌∙◌, ap₂, subst}
 use mathlib.Core.Logic.{by_cases}
@@ -32,6 +32,7 @@ all_numbers s t old = numbers_from 0 (colours_on old) (relations_of s t)
 
 pub record NumberedFrom (cells : ℕ) (s t old w : List ℕ) (l m : Layout) (at k : ℕ) : Type 0 where
   pub alike : Alike s t l m
+  pub few : l.relations ≤ max_relations
   pub numbering : Numbering (all_numbers s t old) cells (relations_from s t k) old w at
 
 pub start :
@@ -43,6 +44,7 @@ start cells s t old l m h listed empty many laid =
     let e : length (model_of s).relations - 0 ≡ length (model_of s).relations = omega arith in
     record {
       alike = h;
+      few = few_relations s l h.0;
       numbering =
           subst
           (λ (n : ℕ). Numbering (all_numbers s t old) cells (joined_from n (model_of s) (model_of t) 0) old old 0)
@@ -66,9 +68,6 @@ module _ (cells : ℕ) (s t old w : List ℕ) (l m : Layout) (at k : ℕ) (i : N
 
   -- relation k
   module _ (h : k < l.relations) where
-    pub few : k < max_relations
-    few = omega (arith, few_relations s l i.alike.0)
-
     abbrev pub width : ℕ
     width = get_or l.arity k 0
 
@@ -116,13 +115,11 @@ module _ (cells : ℕ) (s t old w : List ℕ) (l m : Layout) (at k : ℕ) (i : N
         → NumberedFrom cells s t old out l m (at + many * width) (k + 1)
     more out there kept = record {
       alike = i.alike;
+      few = i.few;
       numbering =
           rw (is_many, is_width) at
           (numbering_more _ _ here (relations_from s t (k + 1)) _ _ _ opened out (rw (is_many, is_width) there) kept);
     }
 
 abbrev pub invariant-loop-k : goal.invariant-loop-k
-invariant-loop-k l = NumberedFrom l.cells l.left l.right l.initial.board l.board l.in_left l.in_right l.at l.k
-
-abbrev pub decreases-loop-k : goal.decreases-loop-k
-decreases-loop-k l = l.in_left.relations - l.k
+invariant-loop-k l = NumberedFrom l.cells l.both.left.bytes.now l.both.right.bytes.now l.initial.board l.board l.both.left.layout l.both.right.layout l.at l.k

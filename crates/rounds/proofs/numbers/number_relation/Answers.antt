@@ -1,4 +1,4 @@
--- `rounds::numbers::number_relation` meets its contract: its rows are numbered by buckets, those of two cells by a way of their own, and the heads of these emptied again; where it has no columns there are no cells. Assumes nothing.
+-- `rounds::numbers::number_relation` meets its contract: its rows are numbered by buckets, and the heads of these emptied again; where it has no columns there are no cells. Assumes nothing.
 use Rattle.rounds.proofs.numbers.number_relation.Goals.{then-arity-eq2, else-arity-eq2}
 use Prim.Native.Nat.{ℕ, ◌+◌, ◌-◌, ◌*◌, ◌<◌, ◌≤◌}
 use mathlib.Core.Path.{◌≡◌, refl, sym, ◌∙◌, ap, subst}
@@ -6,7 +6,7 @@ use mathlib.Core.Logic.{by_cases}
 use mathlib.Core.List.{List}
 use native.Mathlib.Omega.{arith}
 use native.Mathlib.Decide.{dec_le}
-use lib.ListN.{length, get_or}
+use lib.ListN.{get_or}
 use Rattle.rounds.specs.Board.{number_start, count_start, link_start, buckets_for, row_numbers_at, cells_on, position_of, Listed, NumbersAt, Bucketing, Cleared, Renumbered, Empty}
 use Rattle.rounds.proofs.Laws.Listed.{cells_around, listed_around, position_small}
 use Rattle.rounds.proofs.Laws.Buckets.{buckets_fit}
@@ -26,9 +26,6 @@ module _ (cells base arity rows : ℕ) (old : List ℕ) (listed : Listed cells o
     unchanged = record { length_kept = refl; below = λ i h. refl; counts_kept = λ i h l. refl; above = λ i h. refl; numbers_kept = λ c h. refl }
 
   module _ (buckets : ℕ) (is : buckets ≡ buckets_for rows) (fits : base + rows * arity ≤ cells) (empty : Empty count_start old) (w : List ℕ) (b : Bucketing cells base (buckets_for rows) old w) where
-    long : length w ≡ 20736
-    long = b.length_kept ∙ listed.room
-
     few : buckets ≤ 4096
     few = omega (arith, is, buckets_fit rows 0)
 
@@ -76,40 +73,14 @@ numbered_as : (cells base arity width rows : ℕ) (old w v : List ℕ) → arity
 numbered_as cells base arity width rows old w v e f d =
     subst (λ (t : List ℕ). Numbered cells base arity rows old t) (sym f) (subst (λ (n : ℕ). Numbered cells base n rows old w) (sym e) d)
 
-fits_two : (cells base arity rows : ℕ) → arity ≡ 2 → base + rows * arity ≤ cells → base + rows * 2 ≤ cells
-fits_two cells base arity rows e h = subst (λ (n : ℕ). base + rows * n ≤ cells) e h
-
-pub buckets_for-buckets-requires : goal.buckets_for-buckets-requires
-buckets_for-buckets-requires c = tt
-
-pub number_twos-requires : goal.number_twos-requires
-number_twos-requires c =
-    let p = c.requires in
-    (p.0, fits_two c.args.cells c.args.base c.args.arity c.args.rows c.if-arity-eq2.true p.1, p.2)
-
-pub number_rows-requires : goal.number_rows-requires
-number_rows-requires c = let p = c.requires in (p.0, p.1, c.if-arity-gt0.true, p.2)
-
 pub clear_heads-requires : goal.clear_heads-requires
-clear_heads-requires c =
-    let p = c.requires in
-    let r : Numbered c.args.cells c.args.base c.args.arity c.args.rows c.args.board.now c.if-arity-eq2.board =
-    elim c.if-arity-eq2.branch [ then-arity-eq2 w ↦ numbered_as _ _ _ _ _ _ _ _ w.if-arity-eq2.true w.board-is (w.number_twos.ensures.numbers, w.number_twos.ensures.kept) | else-arity-eq2 w ↦ numbered_as _ _ _ _ _ _ _ _ refl w.board-is (w.number_rows.ensures.numbers, w.number_rows.ensures.kept) ]
-    in
-    (long _ _ _ _ _ p.0 _ c.buckets_for-buckets.ensures p.1 p.2 _ r.1, few _ _ _ _ _ p.0 _ c.buckets_for-buckets.ensures p.1 p.2 _ r.1)
-
-pub shape_of-board : goal.shape_of-board
-shape_of-board c =
-    let r : Numbered c.args.cells c.args.base c.args.arity c.args.rows c.args.board.now c.if-arity-eq2.board =
-    elim c.if-arity-eq2.branch [ then-arity-eq2 w ↦ numbered_as _ _ _ _ _ _ _ _ w.if-arity-eq2.true w.board-is (w.number_twos.ensures.numbers, w.number_twos.ensures.kept) | else-arity-eq2 w ↦ numbered_as _ _ _ _ _ _ _ _ refl w.board-is (w.number_rows.ensures.numbers, w.number_rows.ensures.kept) ]
-    in
-    c.clear_heads.ensures.length_kept ∙ r.1.length_kept
+clear_heads-requires c = (c.if-arity-eq2.auto.board ∙ c.requires.0.room, omega (arith, c.buckets_for-buckets.ensures, buckets_fit c.args.rows 0))
 
 pub returns-after-arity-eq2 : goal.returns-after-arity-eq2
 returns-after-arity-eq2 c =
     let p = c.requires in
     let r : Numbered c.args.cells c.args.base c.args.arity c.args.rows c.args.board.now c.if-arity-eq2.board =
-    elim c.if-arity-eq2.branch [ then-arity-eq2 w ↦ numbered_as _ _ _ _ _ _ _ _ w.if-arity-eq2.true w.board-is (w.number_twos.ensures.numbers, w.number_twos.ensures.kept) | else-arity-eq2 w ↦ numbered_as _ _ _ _ _ _ _ _ refl w.board-is (w.number_rows.ensures.numbers, w.number_rows.ensures.kept) ]
+    elim c.if-arity-eq2.branch [ then-arity-eq2 w ↦ numbered_as _ _ _ _ _ _ _ _ w.if-arity-eq2.true w.board-is (w.number_rows.ensures.numbers, w.number_rows.ensures.kept) | else-arity-eq2 w ↦ numbered_as _ _ _ _ _ _ _ _ refl w.board-is (w.number_rows-else-arity-eq2.ensures.numbers, w.number_rows-else-arity-eq2.ensures.kept) ]
     in
     record { numbers = numbered _ _ _ _ _ p.0 _ c.buckets_for-buckets.ensures p.1 p.2 _ r.1 _ c.clear_heads.ensures r.0; kept = renumbered _ _ _ _ _ p.0 _ c.buckets_for-buckets.ensures p.1 p.2 _ r.1 _ c.clear_heads.ensures }
 

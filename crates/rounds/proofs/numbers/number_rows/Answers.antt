@@ -8,9 +8,6 @@ loop-i-init c = numbered_none _ _ _ _ _ c.requires.0 c.requires.1 c.requires.2 c
 pub code_of-code-requires : goal.code_of-code-requires
 code_of-code-requires c = (room_now _ _ _ _ _ _ _ _ c.loop-i.invariant, line_low _ _ _ _ _ _ _ _ c.loop-i.invariant c.loop-i-test.true, line_known _ _ _ _ _ _ _ _ c.loop-i.invariant c.loop-i-test.true)
 
-pub bucket_of-bucket-requires : goal.bucket_of-bucket-requires
-bucket_of-bucket-requires c = tt
-
 pub first_line-first-requires : goal.first_line-first-requires
 first_line-first-requires c =
     let s = row_sought _ _ _ _ _ _ _ _ c.loop-i.invariant c.loop-i-test.true _ _ c.code_of-code.ensures c.bucket_of-bucket.ensures in
@@ -29,9 +26,6 @@ overflow_add-at c = omega (arith, row_room _ _ _ _ _ _ _ _ c.loop-i.invariant c.
 
 pub loop-i-preserved : goal.loop-i-preserved
 loop-i-preserved c = numbered_more _ _ _ _ _ _ _ _ c.loop-i.invariant c.loop-i-test.true _ _ c.code_of-code.ensures c.bucket_of-bucket.ensures _ c.first_line-first.ensures _ c.keep_line.ensures _ c.write_numbers.ensures.written c.write_numbers.ensures.kept
-
-pub shape_of-board : goal.shape_of-board
-shape_of-board c = c.loop-i.invariant.length_kept
 
 pub returns : goal.returns
 returns c = record { numbers = numbered_all _ _ _ _ _ _ _ _ c.loop-i.invariant c.loop-i-test.false; kept = numbered_kept _ _ _ _ _ _ _ _ c.loop-i.invariant }

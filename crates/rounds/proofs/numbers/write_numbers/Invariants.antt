@@ -1,7 +1,7 @@
 -- `rounds::numbers::write_numbers` meets its contract. The invariant: the first j numbers stand at the positions of their cells, and no number of an earlier cell was changed, since each cell has
--- a position of its own; the measure is how many are left. Assumes nothing.
-use Prim.Native.Nat.{ℕ, ◌+◌, ◌-◌, ◌<◌, ◌≤◌}
-use mathlib.Core.Path.{◌≡◌, refl, sym, ◌∙◌, ap}
+-- a position of its own. Assumes nothing.
+use Prim.Native.Nat.{ℕ, ◌+◌, ◌<◌, ◌≤◌}
+use mathlib.Core.Path.{◌≡◌, sym, ◌∙◌, ap}
 use mathlib.Core.Logic.{by_cases}
 use mathlib.Core.List.{List}
 use native.Mathlib.Omega.{arith}
@@ -21,15 +21,6 @@ pub record WrittenTo (cells p first count : ℕ) (old w : List ℕ) (j : ℕ) : 
   pub kept : Scattered cells p old w
   pub numbers : (n : ℕ) → n < j → get_or w (number_start + position_of (cells_on cells old) (p + n)) 0 ≡ first + n
 
-pub start : (cells p first count : ℕ) (old : List ℕ) → Listed cells old → p + count ≤ cells → first + count ≤ 4096 → WrittenTo cells p first count old old 0
-start cells p first count old l f s = record {
-  listed = l;
-  fits = f;
-  small = s;
-  kept = record { length_kept = refl; below = λ i h. refl; above = λ i h. refl; numbers_kept = λ c h. refl };
-  numbers = λ n h. absurd (omega (arith, h));
-}
-
 module _ (cells p first count : ℕ) (old w : List ℕ) (j : ℕ) (k : WrittenTo cells p first count old w j) where
   abbrev pub elements : List ℕ
   elements = cells_on cells old
@@ -47,9 +38,6 @@ module _ (cells p first count : ℕ) (old w : List ℕ) (j : ℕ) (k : WrittenTo
   module _ (h : j < count) where
     pub cell_inside : p + j < cells
     cell_inside = omega (arith, h, k.fits)
-
-    pub cell_room : 4096 + p + j < length w
-    cell_room = omega (arith, cell_inside, k.listed.few, long)
 
     pub place_is : get_or w (4096 + p + j) 0 ≡ position_of elements (p + j)
     place_is =
@@ -90,6 +78,3 @@ module _ (cells p first count : ℕ) (old w : List ℕ) (j : ℕ) (k : WrittenTo
 
 abbrev pub invariant-loop-j : goal.invariant-loop-j
 invariant-loop-j l = WrittenTo l.cells l.p l.first l.count l.initial.board l.board l.j
-
-abbrev pub decreases-loop-j : goal.decreases-loop-j
-decreases-loop-j l = l.count - l.j

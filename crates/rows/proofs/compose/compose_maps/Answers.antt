@@ -15,7 +15,7 @@ returns-then-not-is_map-2 c =
     record { answer = it.0; output = it.1 }
 
 pub write_through-requires : goal.write_through-requires
-write_through-requires c = map_fits _ _ _ (holds c.is_map.ensures c.if-not-is_map.false-raw) _ c.requires.5
+write_through-requires c = map_fits _ _ _ (holds c.is_map.ensures c.if-not-is_map.false-raw) _ c.requires.2
 
 pub returns : goal.returns
 returns c =

@@ -1,21 +1,19 @@
 -- `rows::compose::compose_third` meets its contract: the third file is read, or the call is refused. Assumes nothing.
-use Rattle.stored.proofs.Laws.Reading.{reading_reads}
-use Rattle.rows.proofs.Laws.Files.{with_model_answered, with_model_refused}
-use Rattle.rows.proofs.Laws.Outcome.{refuses, passes_on}
+use mathlib.Core.Path.{ap, ◌∙◌}
+use Rattle.std.proofs.Common.{Err}
+use Rattle.std.proofs.lemmas.Result.{err_from_is_err_and}
+use Rattle.rows.proofs.Laws.Files.{model_goes_on, model_refused}
+use Rattle.rows.proofs.Laws.Outcome.{refuses_as, passes_on}
 use Rattle.rows.proofs.compose.compose_third.Goals as goal
 
-pub compose_models-requires : goal.compose_models-requires
-compose_models-requires c =
-    let p = c.requires in
-    (p.0, p.1, reading_reads _ _ c.read-reading.ensures c.in-Model.is)
-
-pub returns-in-Fault : goal.returns-in-Fault
-returns-in-Fault c =
-    let it = refuses _ _ _ (with_model_refused _ _ _ _ _ c.read-reading.ensures _ c.in-Fault.is) in
+pub returns-in_err-third : goal.returns-in_err-third
+returns-in_err-third c =
+    let p = err_from_is_err_and c.from_residual.result c.from_residual.ensures.1 in
+    let it = refuses_as _ _ _ _ (p.1 ∙ ap Err p.2) (model_refused _ _ _ _ _ c.in_err-third.ensures) in
     record { answer = it.0; output = it.1 }
 
-pub returns-in-Model : goal.returns-in-Model
-returns-in-Model c =
-    let on = with_model_answered _ _ _ _ _ c.read-reading.ensures c.in-Model.is in
+pub returns : goal.returns
+returns c =
+    let on = model_goes_on _ _ _ _ _ c.in_ok-third.ensures in
     let it = passes_on _ _ _ _ _ on (c.compose_models.ensures.answer, c.compose_models.ensures.output) in
     record { answer = it.0; output = it.1 }

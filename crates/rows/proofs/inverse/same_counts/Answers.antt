@@ -1,91 +1,59 @@
+use Prim.Native.Nat.{ℕ, ◌<◌}
+use mathlib.Core.Path.{◌≡◌, sym, ◌∙◌}
+use mathlib.Core.Bool.{Bool, true}
+use mathlib.Core.List.{List, map}
 use native.Mathlib.Omega.{arith}
-use Rattle.stored.proofs.Laws.Reading.{roots_inside}
-use Rattle.rows.proofs.inverse.same_counts.Invariants.{start, done, few, rows_s, rows_t, counted_s, counted_t, stop, more}
+use borrow.Author.Tests.{eq-eqb, ne_eqb}
+use lib.ListN.{length}
+use Rattle.lists.specs.First.{firsts}
+use Rattle.lists.specs.Order.{same_row, ascending}
+use Rattle.lists.proofs.Laws.Numbers.{up_passed, up_failed, up_over}
+use Rattle.stored.specs.Model.{Model, relation_at}
+use Rattle.stored.specs.Canonical.{canonical}
+use Rattle.stored.specs.File.{held}
+use Rattle.stored.proofs.Laws.Reading.{reads_formed}
+use Rattle.stored.proofs.Laws.WellFormed.{WellFormed}
+use Rattle.rows.specs.Rows.{through, normal_rows, normal_count}
+use Rattle.rows.specs.Maps.{same_count, same_counts}
+use Rattle.rows.proofs.Laws.Rows.{as_many}
+use Rattle.rows.proofs.Laws.Canonical.{rows_ascend, plain_rows}
 use Rattle.rows.proofs.inverse.same_counts.Goals as goal
 
-pub overflow_add-roots_end : goal.overflow_add-roots_end
-overflow_add-roots_end c = omega (arith, roots_inside _ _ c.requires.0)
+-- relation k of a model, as it is handed on
+module _ (m : Model) (k : ℕ) (rows : List (List ℕ)) (e : rows ≡ (relation_at m k).rows) (roots : List ℕ) (w : roots ≡ m.roots) where
+  -- it ascends, and is its own normal form where the model is canonical
+  handed : WellFormed m → k < length m.relations → (plain : Bool) → plain ≡ canonical m → (ascending rows ≡ true) × (plain ≡ true → map (through roots) rows ≡ rows)
+  handed formed h plain q = (rows_ascend m formed k h rows e, plain_rows m k h rows e roots w plain q)
 
-pub overflow_add-other_roots_end : goal.overflow_add-other_roots_end
-overflow_add-other_roots_end c = omega (arith, roots_inside _ _ c.requires.1)
-
-pub slice_bounds-roots-end : goal.slice_bounds-roots-end
-slice_bounds-roots-end c = roots_inside _ _ c.requires.0
-
-pub slice_bounds-other_roots-end : goal.slice_bounds-other_roots-end
-slice_bounds-other_roots-end c = roots_inside _ _ c.requires.1
-
-pub is_canonical-plain-requires : goal.is_canonical-plain-requires
-is_canonical-plain-requires c = c.requires.0
-
-pub is_canonical-other_plain-requires : goal.is_canonical-other_plain-requires
-is_canonical-other_plain-requires c = c.requires.1
-
-pub loop-k-init : goal.loop-k-init
-loop-k-init c = start _ _ _ _ _ _ c.requires c.is_canonical-plain.ensures c.is_canonical-other_plain.ensures
-
-pub offset_bounds-in_source-k : goal.offset_bounds-in_source-k
-offset_bounds-in_source-k c = omega (arith, few _ _ _ _ _ _ _ c.loop-k.invariant c.loop-k-test.true)
-
-pub bounds-in_source-k : goal.bounds-in_source-k
-bounds-in_source-k c = few _ _ _ _ _ _ _ c.loop-k.invariant c.loop-k-test.true
-
-pub offset_bounds-in_target-k : goal.offset_bounds-in_target-k
-offset_bounds-in_target-k c = omega (arith, few _ _ _ _ _ _ _ c.loop-k.invariant c.loop-k-test.true)
-
-pub bounds-in_target-k : goal.bounds-in_target-k
-bounds-in_target-k c = few _ _ _ _ _ _ _ c.loop-k.invariant c.loop-k-test.true
-
-pub slice_bounds-rows_counted-count : goal.slice_bounds-rows_counted-count
-slice_bounds-rows_counted-count c = (rows_s _ _ _ _ _ _ _ c.loop-k.invariant c.loop-k-test.true).begins
-
-pub slice_bounds-rows_counted-start : goal.slice_bounds-rows_counted-start
-slice_bounds-rows_counted-start c = (rows_s _ _ _ _ _ _ _ c.loop-k.invariant c.loop-k-test.true).begins
-
-pub offset_bounds-in_source-k-in-loop-k : goal.offset_bounds-in_source-k-in-loop-k
-offset_bounds-in_source-k-in-loop-k c = omega (arith, few _ _ _ _ _ _ _ c.loop-k.invariant c.loop-k-test.true)
-
-pub bounds-in_source-k-in-loop-k : goal.bounds-in_source-k-in-loop-k
-bounds-in_source-k-in-loop-k c = few _ _ _ _ _ _ _ c.loop-k.invariant c.loop-k-test.true
-
-pub offset_bounds-in_source-k-in-loop-k-2 : goal.offset_bounds-in_source-k-in-loop-k-2
-offset_bounds-in_source-k-in-loop-k-2 c = omega (arith, few _ _ _ _ _ _ _ c.loop-k.invariant c.loop-k-test.true)
-
-pub bounds-in_source-k-in-loop-k-2 : goal.bounds-in_source-k-in-loop-k-2
-bounds-in_source-k-in-loop-k-2 c = few _ _ _ _ _ _ _ c.loop-k.invariant c.loop-k-test.true
+  -- how many normalised rows are counted
+  counts : (n : ℕ) → n ≡ length (firsts same_row (map (through roots) rows)) → n ≡ normal_count m (relation_at m k)
+  unfolding normal_count normal_rows
+  counts n f = rw (e, w) at f
 
 pub rows_counted-n-requires : goal.rows_counted-n-requires
-rows_counted-n-requires c = counted_s _ _ _ _ _ _ _ c.loop-k.invariant c.loop-k-test.true
+rows_counted-n-requires c = handed _ _ _ c.rows.ensures.rows _ c.roots-roots.ensures (reads_formed _ _ c.args.source.now.reads) (omega arith) _ c.is_canonical-plain.ensures
 
-pub slice_bounds-rows_counted-count-in-loop-k : goal.slice_bounds-rows_counted-count-in-loop-k
-slice_bounds-rows_counted-count-in-loop-k c = (rows_t _ _ _ _ _ _ _ c.loop-k.invariant c.loop-k-test.true).begins
-
-pub slice_bounds-rows_counted-start-in-loop-k : goal.slice_bounds-rows_counted-start-in-loop-k
-slice_bounds-rows_counted-start-in-loop-k c = (rows_t _ _ _ _ _ _ _ c.loop-k.invariant c.loop-k-test.true).begins
-
-pub offset_bounds-in_target-k-in-loop-k : goal.offset_bounds-in_target-k-in-loop-k
-offset_bounds-in_target-k-in-loop-k c = omega (arith, few _ _ _ _ _ _ _ c.loop-k.invariant c.loop-k-test.true)
-
-pub bounds-in_target-k-in-loop-k : goal.bounds-in_target-k-in-loop-k
-bounds-in_target-k-in-loop-k c = few _ _ _ _ _ _ _ c.loop-k.invariant c.loop-k-test.true
-
-pub offset_bounds-in_target-k-in-loop-k-2 : goal.offset_bounds-in_target-k-in-loop-k-2
-offset_bounds-in_target-k-in-loop-k-2 c = omega (arith, few _ _ _ _ _ _ _ c.loop-k.invariant c.loop-k-test.true)
-
-pub bounds-in_target-k-in-loop-k-2 : goal.bounds-in_target-k-in-loop-k-2
-bounds-in_target-k-in-loop-k-2 c = few _ _ _ _ _ _ _ c.loop-k.invariant c.loop-k-test.true
+pub rows-requires-in-loop-k : goal.rows-requires-in-loop-k
+rows-requires-in-loop-k c = omega (arith, as_many (held c.args.source.now) (held c.args.target.now) c.requires)
 
 pub rows_counted-other_n-requires : goal.rows_counted-other_n-requires
-rows_counted-other_n-requires c = counted_t _ _ _ _ _ _ _ c.loop-k.invariant c.loop-k-test.true
+rows_counted-other_n-requires c =
+    handed _ _ _ c.rows-in-loop-k.ensures.rows _ c.roots-other_roots.ensures (reads_formed _ _ c.args.target.now.reads) (omega (arith, as_many (held c.args.source.now) (held c.args.target.now) c.requires)) _ c.is_canonical-other_plain.ensures
 
 pub returns-then-n-other_n : goal.returns-then-n-other_n
-returns-then-n-other_n c = stop _ _ _ _ _ _ _ c.loop-k.invariant c.loop-k-test.true _ _ c.rows_counted-n.ensures c.rows_counted-other_n.ensures c.if-n-other_n.true
-
-pub overflow_add-k : goal.overflow_add-k
-overflow_add-k c = omega (arith, few _ _ _ _ _ _ _ c.loop-k.invariant c.loop-k-test.true)
+unfolding same_counts same_count
+returns-then-n-other_n c =
+    let e = counts _ _ _ c.rows.ensures.rows _ c.roots-roots.ensures _ c.rows_counted-n.ensures in
+    let f = counts _ _ _ c.rows-in-loop-k.ensures.rows _ c.roots-other_roots.ensures _ c.rows_counted-other_n.ensures in
+    up_failed c.loop-k.invariant (omega arith) (ne_eqb _ _ (λ q. c.if-n-other_n.true (e ∙ q ∙ sym f)))
 
 pub loop-k-preserved : goal.loop-k-preserved
-loop-k-preserved c = more _ _ _ _ _ _ _ c.loop-k.invariant c.loop-k-test.true _ _ c.rows_counted-n.ensures c.rows_counted-other_n.ensures c.if-n-other_n.false
+unfolding same_count
+loop-k-preserved c =
+    let e = counts _ _ _ c.rows.ensures.rows _ c.roots-roots.ensures _ c.rows_counted-n.ensures in
+    let f = counts _ _ _ c.rows-in-loop-k.ensures.rows _ c.roots-other_roots.ensures _ c.rows_counted-other_n.ensures in
+    up_passed c.loop-k.invariant (omega arith) (eq-eqb _ _ (sym e ∙ c.if-n-other_n.false ∙ f))
 
 pub returns : goal.returns
-returns c = done _ _ _ _ _ _ _ c.loop-k.invariant c.loop-k-test.false
+unfolding same_counts
+returns c = up_over c.loop-k.invariant (omega arith)

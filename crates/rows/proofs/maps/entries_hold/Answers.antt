@@ -1,16 +1,18 @@
-use mathlib.Core.Path.{sym, ◌∙◌}
-use borrow.Author.Tests.{not-true, not-false}
-use Rattle.lists.proofs.Laws.Numbers.{up_from_lem, up_passed, up_failed, up_over}
+-- `rows::maps::entries_hold` meets its contract: the test of each entry is that of the definition. Assumes nothing.
+use mathlib.Core.Path.{refl, ◌∙◌}
+use native.Mathlib.Omega.{arith}
+use borrow.Author.Tests.{tests}
+use lib.ListN.{length}
+use Rattle.std.proofs.Common.{rules}
+use Rattle.std.proofs.lemmas.Iterator.{YieldsList-from_range}
+use Rattle.std.proofs.lemmas.Iterator.Search.{all_from_yields_List}
+use Rattle.rows.specs.Maps.{entry_in}
+use Rattle.rows.proofs.Laws.Chains.{all_up}
 use Rattle.rows.proofs.maps.entries_hold.Goals as goal
 
-pub loop-x-init : goal.loop-x-init
-loop-x-init c = up_from_lem _ _
-
-pub returns-then-not-entry_holds : goal.returns-then-not-entry_holds
-returns-then-not-entry_holds c = up_failed c.loop-x.invariant c.loop-x-test.true (sym c.entry_holds.ensures ∙ not-true _ c.if-not-entry_holds.true-raw)
-
-pub loop-x-preserved : goal.loop-x-preserved
-loop-x-preserved c = up_passed c.loop-x.invariant c.loop-x-test.true (sym c.entry_holds.ensures ∙ not-false _ c.if-not-entry_holds.false-raw)
-
 pub returns : goal.returns
-returns c = up_over c.loop-x.invariant c.loop-x-test.false
+returns c =
+    let a = c.args in
+    let n = length a.map.now in
+    let p = entry_in a.types.now a.roots.now a.other_types.now a.other_roots.now a.map.now in
+    all_from_yields_List p _ _ _ c.all.ensures.ran (YieldsList-from_range 0 n n refl (omega arith)) (λ x b q k. search (rules, tests)) ∙ all_up p n

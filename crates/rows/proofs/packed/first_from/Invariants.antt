@@ -4,7 +4,7 @@ use Rattle.rows.proofs.Laws.Starts.{Started}
 use Rattle.rows.proofs.packed.first_from.Given as goal
 
 abbrev pub invariant-loop-left : goal.invariant-loop-left
-invariant-loop-left l = Started l.rows l.arity l.count l.x l.first l.left
+invariant-loop-left l = Started l.rows.cells.now l.rows.arity l.rows.count l.x l.first l.left
 
 abbrev pub decreases-loop-left : goal.decreases-loop-left
 decreases-loop-left l = l.left

@@ -1,6 +1,6 @@
 -- `rows::packed::number_through` meets its contract. The invariant: the number of what the table says of the first j entries is built; the measure is
 -- the number of entries left. Assumes nothing.
-use Prim.Native.Nat.{ℕ, ◌+◌, ◌-◌, ◌*◌, ◌<◌, ◌≤◌}
+use Prim.Native.Nat.{ℕ, ◌+◌, ◌*◌, ◌<◌, ◌≤◌}
 use mathlib.Core.Path.{◌≡◌, sym, ◌∙◌}
 use mathlib.Core.List.{List}
 use lib.ListN.{length, get_or}
@@ -29,8 +29,5 @@ module _ (table row : List ℕ) where
       pub more : (y : ℕ) → y < 256 → y ≡ get_or table (get_or row j 0) 255 → PackedTo (through table row) (number * 256 + y) (j + 1)
       more y b e = packed_more i inside y b (e ∙ sym (get_d_through table row j 0 h))
 
-abbrev pub invariant-loop-j : goal.invariant-loop-j
-invariant-loop-j l = PackedTo (through l.table l.row) l.number l.j
-
-abbrev pub decreases-loop-j : goal.decreases-loop-j
-decreases-loop-j l = length l.row - l.j
+abbrev pub invariant-loop-x : goal.invariant-loop-x
+invariant-loop-x l = PackedTo (through l.table l.row) l.number l.x-index

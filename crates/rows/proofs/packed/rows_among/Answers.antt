@@ -4,13 +4,7 @@ use Rattle.rows.specs.Rows.{rows_kept}
 use Rattle.rows.proofs.packed.rows_among.Goals as goal
 
 pub rows_found-requires : goal.rows_found-requires
-rows_found-requires c = let p = c.requires in (c.if-arity-gt0.true, p.0, p.1, p.2, p.3)
+rows_found-requires c = let p = c.requires in (c.if-rows-gt0.true, p.0, p.1, p.2)
 
-pub returns-then-arity-gt0 : goal.returns-then-arity-gt0
-returns-then-arity-gt0 c = c.rows_found.ensures ∙ ap (rows_kept _ _) (sym (c.requires.4 c.if-plain.true))
-
-pub rows_kept-requires : goal.rows_kept-requires
-rows_kept-requires c = let p = c.requires in (p.1, p.2)
-
-pub returns : goal.returns
-returns c = c.rows_kept.ensures
+pub returns-then-rows-gt0 : goal.returns-then-rows-gt0
+returns-then-rows-gt0 c = c.rows_found.ensures ∙ ap (rows_kept _ _) (sym (c.requires.3 c.if-plain.true))

@@ -22,10 +22,4 @@ as_many roots s a c fits bytes h plain =
 pub returns-then-plain : goal.returns-then-plain
 returns-then-plain c =
     let p = c.requires in
-    as_many _ _ _ _ p.0 (λ i. omega (arith, c.type_inv.rows i)) p.1 (p.2 c.if-plain.true)
-
-pub normal_count-requires : goal.normal_count-requires
-normal_count-requires c = c.requires.0
-
-pub returns : goal.returns
-returns c = c.normal_count.ensures
+    as_many _ _ _ _ c.args.rows.now.whole c.args.rows.now.bytes p.0 (p.1 c.if-plain.true)

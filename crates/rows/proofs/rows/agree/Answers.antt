@@ -1,5 +1,4 @@
-use native.Mathlib.Omega.{arith}
-use Rattle.rows.proofs.rows.agree.Invariants.{unequal, start, done, other_inside, stop, more}
+use Rattle.rows.proofs.rows.agree.Invariants.{unequal, start, done, stop, more}
 use Rattle.rows.proofs.rows.agree.Goals as goal
 
 pub returns-then-row-other : goal.returns-then-row-other
@@ -7,21 +6,6 @@ returns-then-row-other c = unequal _ _ _ _ c.if-row-other.true
 
 pub loop-j-init : goal.loop-j-init
 loop-j-init c = start _ _ _ _ c.if-row-other.false
-
-pub bounds-other-j : goal.bounds-other-j
-bounds-other-j c = other_inside _ _ _ _ _ c.loop-j.invariant c.loop-j-test.true
-
-pub overflow_cast-entry : goal.overflow_cast-entry
-overflow_cast-entry c = omega (arith, c.type_inv.row c.loop-j.j)
-
-pub look-x-requires : goal.look-x-requires
-look-x-requires c = tt
-
-pub overflow_cast-other_entry : goal.overflow_cast-other_entry
-overflow_cast-other_entry c = omega (arith, c.type_inv.other c.loop-j.j)
-
-pub look-y-requires : goal.look-y-requires
-look-y-requires c = tt
 
 pub returns-then-x-y : goal.returns-then-x-y
 returns-then-x-y c = stop _ _ _ _ _ c.loop-j.invariant c.loop-j-test.true _ _ c.look-x.ensures c.look-y.ensures c.if-x-y.true

@@ -1,6 +1,6 @@
 -- `rows::rows::agree` meets its contract. The invariant: the rows are of one length, and from place j on they agree, each through its table, where
--- they do so from the start; the measure is the number of places left. Assumes nothing.
-use Prim.Native.Nat.{ℕ, ◌<◌, ◌≤◌, ◌+◌, ◌-◌}
+-- they do so from the start. Assumes nothing.
+use Prim.Native.Nat.{ℕ, ◌<◌, ◌≤◌, ◌+◌}
 use mathlib.Core.Path.{◌≡◌, sym, ◌∙◌}
 use mathlib.Core.Bool.{true, false}
 use mathlib.Core.List.{List}
@@ -54,6 +54,3 @@ module _ (t r u o : List ℕ) where
 
 abbrev pub invariant-loop-j : goal.invariant-loop-j
 invariant-loop-j l = Agree l.table l.row l.other_table l.other l.j
-
-abbrev pub decreases-loop-j : goal.decreases-loop-j
-decreases-loop-j l = length l.row - l.j

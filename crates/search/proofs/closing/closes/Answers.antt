@@ -1,78 +1,69 @@
+use Prim.Native.Nat.{ℕ, ◌<◌}
+use mathlib.Core.Path.{◌≡◌, refl, sym, ap, ◌∙◌}
+use mathlib.Core.Bool.{Bool, true}
+use mathlib.Core.List.{List, map}
 use native.Mathlib.Omega.{arith}
-use Rattle.lists.proofs.Laws.Numbers.{up_from_lem}
-use Rattle.stored.proofs.Laws.Reading.{reads_formed, roots_inside}
-use Rattle.search.proofs.closing.closes.Invariants.{done, few, rows, others, short, among_ascend, among_plain, stop, more}
+use lib.ListN.{length}
+use Rattle.lists.proofs.Laws.Numbers.{up_from_lem, up_passed, up_failed, up_over}
+use Rattle.stored.specs.declared.matched.Matched.{Matched}
+use Rattle.stored.specs.Model.{Model, relation_at}
+use Rattle.stored.specs.Canonical.{canonical}
+use Rattle.stored.specs.File.{held}
+use Rattle.stored.proofs.Laws.Reading.{reads_formed}
+use Rattle.rows.specs.Rows.{through, rows_kept}
+use Rattle.rows.proofs.Laws.Rows.{as_many, like_columns}
+use Rattle.rows.proofs.Laws.Canonical.{formed_at, rows_ascend, plain_rows}
+use Rattle.search.specs.Machine.{closes}
+use Rattle.search.specs.Find.{alike}
+use Rattle.search.proofs.Laws.Closing.{into, not_into, into_closes}
+use Rattle.search.proofs.Theorems.Onto.{AlikeModels}
 use Rattle.search.proofs.closing.closes.Goals as goal
 
-pub overflow_add-roots_end : goal.overflow_add-roots_end
-overflow_add-roots_end c = omega (arith, roots_inside _ _ c.requires.1)
+-- two matched files whose models are canonical and alike
+models : (m : Matched) → canonical (held m.left) ≡ true → canonical (held m.right) ≡ true → alike (held m.left) (held m.right) ≡ true → AlikeModels (held m.left) (held m.right)
+models m p q e = record { left_formed = reads_formed _ _ m.left.reads; right_formed = reads_formed _ _ m.right.reads; left_plain = p; right_plain = q; one_signature = m.one_signature; are_alike = e }
 
-pub slice_bounds-roots-end : goal.slice_bounds-roots-end
-slice_bounds-roots-end c = roots_inside _ _ c.requires.1
+-- the answer for the rows of relation k as they are handed on
+answered :
+    (a b : Model) (f : List ℕ) (k : ℕ) (rows others : List (List ℕ)) (roots : List ℕ) → rows ≡ (relation_at a k).rows → others ≡ (relation_at b k).rows → map (through roots) others ≡ others → (r : Bool)
+    → r ≡ rows_kept f rows (map (through roots) others) → into a b f k ≡ r
+answered a b f k rows others roots p q w r e = sym (rw (p, q) at (e ∙ ap (rows_kept f rows) w))
 
 pub loop-k-init : goal.loop-k-init
-loop-k-init c =
-    let p = c.requires in
-    record {
-      alike = (p.0, p.1, p.4);
-      models = record { left_formed = reads_formed _ _ p.0; right_formed = reads_formed _ _ p.1; left_plain = p.2; right_plain = p.3; one_signature = p.4; are_alike = p.5 };
-      keeps_apart = p.6;
-      from = up_from_lem _ _;
-    }
+loop-k-init c = up_from_lem _ _
 
-pub offset_bounds-in_left-k : goal.offset_bounds-in_left-k
-offset_bounds-in_left-k c = omega (arith, few _ _ _ _ _ _ c.loop-k.invariant c.loop-k-test.true)
-
-pub bounds-in_left-k : goal.bounds-in_left-k
-bounds-in_left-k c = few _ _ _ _ _ _ c.loop-k.invariant c.loop-k-test.true
-
-pub offset_bounds-in_left-k-in-loop-k : goal.offset_bounds-in_left-k-in-loop-k
-offset_bounds-in_left-k-in-loop-k c = omega (arith, few _ _ _ _ _ _ c.loop-k.invariant c.loop-k-test.true)
-
-pub bounds-in_left-k-in-loop-k : goal.bounds-in_left-k-in-loop-k
-bounds-in_left-k-in-loop-k c = few _ _ _ _ _ _ c.loop-k.invariant c.loop-k-test.true
-
-pub offset_bounds-in_right-k : goal.offset_bounds-in_right-k
-offset_bounds-in_right-k c = omega (arith, few _ _ _ _ _ _ c.loop-k.invariant c.loop-k-test.true)
-
-pub bounds-in_right-k : goal.bounds-in_right-k
-bounds-in_right-k c = few _ _ _ _ _ _ c.loop-k.invariant c.loop-k-test.true
-
-pub offset_bounds-in_right-k-in-loop-k : goal.offset_bounds-in_right-k-in-loop-k
-offset_bounds-in_right-k-in-loop-k c = omega (arith, few _ _ _ _ _ _ c.loop-k.invariant c.loop-k-test.true)
-
-pub bounds-in_right-k-in-loop-k : goal.bounds-in_right-k-in-loop-k
-bounds-in_right-k-in-loop-k c = few _ _ _ _ _ _ c.loop-k.invariant c.loop-k-test.true
-
-pub offset_bounds-in_left-k-in-loop-k-2 : goal.offset_bounds-in_left-k-in-loop-k-2
-offset_bounds-in_left-k-in-loop-k-2 c = omega (arith, few _ _ _ _ _ _ c.loop-k.invariant c.loop-k-test.true)
-
-pub bounds-in_left-k-in-loop-k-2 : goal.bounds-in_left-k-in-loop-k-2
-bounds-in_left-k-in-loop-k-2 c = few _ _ _ _ _ _ c.loop-k.invariant c.loop-k-test.true
-
-pub slice_bounds-rows-count : goal.slice_bounds-rows-count
-slice_bounds-rows-count c = (rows _ _ _ _ _ _ c.loop-k.invariant c.loop-k-test.true).begins
-
-pub slice_bounds-rows-start : goal.slice_bounds-rows-start
-slice_bounds-rows-start c = (rows _ _ _ _ _ _ c.loop-k.invariant c.loop-k-test.true).begins
-
-pub slice_bounds-others-count : goal.slice_bounds-others-count
-slice_bounds-others-count c = (others _ _ _ _ _ _ c.loop-k.invariant c.loop-k-test.true).begins
-
-pub slice_bounds-others-start : goal.slice_bounds-others-start
-slice_bounds-others-start c = (others _ _ _ _ _ _ c.loop-k.invariant c.loop-k-test.true).begins
+pub rows-others-requires : goal.rows-others-requires
+rows-others-requires c = let b = c.args.both.now in omega (arith, as_many (held b.left) (held b.right) b.one_signature)
 
 pub rows_among-requires : goal.rows_among-requires
-rows_among-requires c = (short _ _ _ _ _ _ c.loop-k.invariant c.loop-k-test.true, (rows _ _ _ _ _ _ c.loop-k.invariant c.loop-k-test.true).inside, (others _ _ _ _ _ _ c.loop-k.invariant c.loop-k-test.true).inside, among_ascend _ _ _ _ _ _ c.loop-k.invariant c.loop-k-test.true, λ p. among_plain _ _ _ _ _ _ c.loop-k.invariant c.loop-k-test.true)
+rows_among-requires c =
+    let b = c.args.both.now in
+    let inside : c.loop-k.k < length (held b.left).relations = omega arith in
+    let other : c.loop-k.k < length (held b.right).relations = omega (arith, as_many (held b.left) (held b.right) b.one_signature) in (
+      omega (arith, c.rows-rows.ensures.arity, (formed_at (held b.left) (reads_formed _ _ b.left.reads) _ inside).small_arity),
+      c.rows-others.ensures.arity ∙ ap length (sym (like_columns (held b.left) (held b.right) b.one_signature _)) ∙ sym c.rows-rows.ensures.arity,
+      rows_ascend (held b.right) (reads_formed _ _ b.right.reads) _ other _ c.rows-others.ensures.rows,
+      plain_rows (held b.right) _ other _ c.rows-others.ensures.rows _ c.roots-roots.ensures _ (sym c.requires.1),
+    )
 
 pub returns-then-not-rows_among : goal.returns-then-not-rows_among
-returns-then-not-rows_among c = stop _ _ _ _ _ _ c.loop-k.invariant c.loop-k-test.true _ c.rows_among.ensures c.if-not-rows_among.true
-
-pub overflow_add-k : goal.overflow_add-k
-overflow_add-k c = omega (arith, few _ _ _ _ _ _ c.loop-k.invariant c.loop-k-test.true)
+unfolding closes
+returns-then-not-rows_among c =
+    let b = c.args.both.now in
+    let other : c.loop-k.k < length (held b.right).relations = omega (arith, as_many (held b.left) (held b.right) b.one_signature) in
+    let plain = plain_rows (held b.right) _ other _ c.rows-others.ensures.rows _ c.roots-roots.ensures _ (sym c.requires.1) refl in
+    let told = answered (held b.left) (held b.right) c.args.map.now c.loop-k.k _ _ _ c.rows-rows.ensures.rows c.rows-others.ensures.rows plain _ c.rows_among.ensures in
+    up_failed c.loop-k.invariant (omega arith) (not_into _ _ _ _ (told ∙ c.if-not-rows_among.true))
 
 pub loop-k-preserved : goal.loop-k-preserved
-loop-k-preserved c = more _ _ _ _ _ _ c.loop-k.invariant c.loop-k-test.true _ c.rows_among.ensures c.if-not-rows_among.false
+loop-k-preserved c =
+    let b = c.args.both.now in
+    let p = c.requires in
+    let other : c.loop-k.k < length (held b.right).relations = omega (arith, as_many (held b.left) (held b.right) b.one_signature) in
+    let plain = plain_rows (held b.right) _ other _ c.rows-others.ensures.rows _ c.roots-roots.ensures _ (sym p.1) refl in
+    let told = answered (held b.left) (held b.right) c.args.map.now c.loop-k.k _ _ _ c.rows-rows.ensures.rows c.rows-others.ensures.rows plain _ c.rows_among.ensures in
+    up_passed c.loop-k.invariant (omega arith) (into_closes _ _ _ _ (models b p.0 p.1 p.2) p.3 (told ∙ c.if-not-rows_among.false))
 
 pub returns : goal.returns
-returns c = done _ _ _ _ _ _ c.loop-k.invariant c.loop-k-test.false
+unfolding closes
+returns c = up_over c.loop-k.invariant (omega arith)

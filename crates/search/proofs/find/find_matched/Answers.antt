@@ -15,7 +15,7 @@ returns-then-not-alike c =
 pub search-requires : goal.search-requires
 search-requires c =
     let p = c.requires in
-    (p.0, p.1, p.2, p.3, p.4, holds c.alike.ensures c.if-not-alike.false-raw, p.5, p.6, p.7)
+    (p.0, p.1, holds c.alike.ensures c.if-not-alike.false-raw, p.2, p.3, p.4)
 
 pub returns : goal.returns
 returns c =

@@ -9,53 +9,45 @@ use Rattle.search.proofs.find.under_maps.Goals as goal
 pub returns-then-not-same_signature : goal.returns-then-not-same_signature
 returns-then-not-same_signature c =
     let p = c.requires in
-    let it = refuses _ _ _ _ (left_differing _ _ _ _ _ _ _ _ p.5 p.6 p.3 p.4 (fails c.same_signature.ensures c.if-not-same_signature.true-raw)) in
+    let it = refuses _ _ _ _ (left_differing _ _ _ _ _ _ _ _ p.2 p.3 p.0 p.1 (fails c.same_signature.ensures c.if-not-same_signature.true-raw)) in
     record { answer = it.0; output = it.1.0; work = it.1.1 }
 
 pub returns-then-not-same_signature-2 : goal.returns-then-not-same_signature-2
 returns-then-not-same_signature-2 c =
     let p = c.requires in
-    let it = refuses _ _ _ _ (right_differing _ _ _ _ _ _ _ _ p.5 p.6 p.3 p.4 (holds c.same_signature.ensures c.if-not-same_signature.false-raw) (fails c.same_signature-2.ensures c.if-not-same_signature-2.true-raw)) in
+    let it = refuses _ _ _ _ (right_differing _ _ _ _ _ _ _ _ p.2 p.3 p.0 p.1 (holds c.same_signature.ensures c.if-not-same_signature.false-raw) (fails c.same_signature-2.ensures c.if-not-same_signature-2.true-raw)) in
     record { answer = it.0; output = it.1.0; work = it.1.1 }
-
-pub is_map-requires : goal.is_map-requires
-is_map-requires c =
-    let p = c.requires in
-    (p.0, p.1, holds c.same_signature.ensures c.if-not-same_signature.false-raw)
 
 pub returns-then-not-is_map : goal.returns-then-not-is_map
 returns-then-not-is_map c =
     let p = c.requires in
     let left = holds c.same_signature.ensures c.if-not-same_signature.false-raw in
     let right = holds c.same_signature-2.ensures c.if-not-same_signature-2.false-raw in
-    let it = refuses _ _ _ _ (left_no_map _ _ _ _ _ _ _ _ p.5 p.6 p.3 p.4 left right (fails c.is_map.ensures c.if-not-is_map.true-raw)) in
+    let it = refuses _ _ _ _ (left_no_map _ _ _ _ _ _ _ _ p.2 p.3 p.0 p.1 left right (fails c.is_map.ensures c.if-not-is_map.true-raw)) in
     record { answer = it.0; output = it.1.0; work = it.1.1 }
-
-pub is_map-requires-2 : goal.is_map-requires-2
-is_map-requires-2 c =
-    let p = c.requires in
-    (p.0, p.2, holds c.same_signature-2.ensures c.if-not-same_signature-2.false-raw)
 
 pub returns-then-not-is_map-2 : goal.returns-then-not-is_map-2
 returns-then-not-is_map-2 c =
     let p = c.requires in
     let left = holds c.same_signature.ensures c.if-not-same_signature.false-raw in
     let right = holds c.same_signature-2.ensures c.if-not-same_signature-2.false-raw in
-    let it = refuses _ _ _ _ (right_no_map _ _ _ _ _ _ _ _ p.5 p.6 p.3 p.4 left right (holds c.is_map.ensures c.if-not-is_map.false-raw) (fails c.is_map-2.ensures c.if-not-is_map-2.true-raw)) in
+    let it = refuses _ _ _ _ (right_no_map _ _ _ _ _ _ _ _ p.2 p.3 p.0 p.1 left right (holds c.is_map.ensures c.if-not-is_map.false-raw) (fails c.is_map-2.ensures c.if-not-is_map-2.true-raw)) in
     record { answer = it.0; output = it.1.0; work = it.1.1 }
 
-pub find_from-requires : goal.find_from-requires
-find_from-requires c =
-    let p = c.requires in
+pub invariant_of-both : goal.invariant_of-both
+invariant_of-both c =
     let left = same_signature_lem _ _ (holds c.same_signature.ensures c.if-not-same_signature.false-raw) in
     let right = same_signature_lem _ _ (holds c.same_signature-2.ensures c.if-not-same_signature-2.false-raw) in
-    (p.0, p.1, p.2, p.3, p.4, equal_signature _ _ (sym left ∙ right), p.5, p.6)
+    record { one_signature = equal_signature _ _ (sym left ∙ right) }
+
+pub find_from-requires : goal.find_from-requires
+find_from-requires c = c.requires
 
 pub returns : goal.returns
 returns c =
     let p = c.requires in
     let left = holds c.same_signature.ensures c.if-not-same_signature.false-raw in
     let right = holds c.same_signature-2.ensures c.if-not-same_signature-2.false-raw in
-    let on = under_goes_on _ _ _ _ _ _ _ _ p.5 p.6 p.3 p.4 left right (holds c.is_map.ensures c.if-not-is_map.false-raw) (holds c.is_map-2.ensures c.if-not-is_map-2.false-raw) in
+    let on = under_goes_on _ _ _ _ _ _ _ _ p.2 p.3 p.0 p.1 left right (holds c.is_map.ensures c.if-not-is_map.false-raw) (holds c.is_map-2.ensures c.if-not-is_map-2.false-raw) in
     let it = passes_on _ _ _ _ _ _ _ on (c.find_from.ensures.answer, (c.find_from.ensures.output, c.find_from.ensures.work)) in
     record { answer = it.0; output = it.1.0; work = it.1.1 }

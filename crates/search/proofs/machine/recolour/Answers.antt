@@ -2,13 +2,5 @@
 use Rattle.search.proofs.Laws.Refine.{rounded_sides, board_back, board_kept}
 use Rattle.search.proofs.machine.recolour.Goals as goal
 
-pub round-requires : goal.round-requires
-round-requires c =
-    let p = c.requires in
-    (p.0, p.1, p.2, p.3, p.5.1, p.5.2)
-
-pub shape_of-work : goal.shape_of-work
-shape_of-work c = ((board_back c.args.work.now c.round.new.board c.requires.4 c.round.auto.board)).long
-
 pub returns : goal.returns
-returns c = record { recoloured = rounded_sides _ _ _ _ c.round.ensures.recoloured; shape = c.round.ensures.shape; work = board_kept ((board_back c.args.work.now c.round.new.board c.requires.4 c.round.auto.board)) _ _ _ c.round.ensures.board }
+returns c = record { recoloured = rounded_sides _ _ _ _ c.round.ensures.recoloured; shape = c.round.ensures.shape; work = board_kept ((board_back c.args.work.now c.round.new.board c.requires.1 c.round.auto.board)) _ _ _ c.round.ensures.board }

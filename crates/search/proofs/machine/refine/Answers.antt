@@ -10,25 +10,25 @@ use Rattle.search.proofs.machine.refine.Goals as goal
 pub recolour-new-requires : goal.recolour-new-requires
 recolour-new-requires c =
     let p = c.requires in
-    (p.0, p.1, p.2, p.3, p.4, p.6)
+    (p.0, p.1, p.3)
 
 pub slice_bounds-row-end : goal.slice_bounds-row-end
-slice_bounds-row-end c = side_room _ _ c.requires.0 (get_or c.recolour-new.result 0 []) c.recolour-new.ensures.shape.1
+slice_bounds-row-end c = side_room _ _ c.args.both.now.left.reads (get_or c.recolour-new.result 0 []) c.recolour-new.ensures.shape.1
 
 pub slice_bounds-weigh-end : goal.slice_bounds-weigh-end
-slice_bounds-weigh-end c = side_front _ _ c.requires.0 (get_or c.recolour-new.result 0 []) c.recolour-new.ensures.shape.1
+slice_bounds-weigh-end c = side_front _ _ c.args.both.now.left.reads (get_or c.recolour-new.result 0 []) c.recolour-new.ensures.shape.1
 
 pub slice_bounds-other-end : goal.slice_bounds-other-end
-slice_bounds-other-end c = side_room _ _ c.requires.1 (get_or c.recolour-new.result 1 []) c.recolour-new.ensures.shape.2
+slice_bounds-other-end c = side_room _ _ c.args.both.now.right.reads (get_or c.recolour-new.result 1 []) c.recolour-new.ensures.shape.2
 
 pub slice_bounds-weigh-end-2 : goal.slice_bounds-weigh-end-2
-slice_bounds-weigh-end-2 c = side_front _ _ c.requires.1 (get_or c.recolour-new.result 1 []) c.recolour-new.ensures.shape.2
+slice_bounds-weigh-end-2 c = side_front _ _ c.args.both.now.right.reads (get_or c.recolour-new.result 1 []) c.recolour-new.ensures.shape.2
 
 pub weigh-requires : goal.weigh-requires
 weigh-requires c =
     let p = c.requires in
-    let small = rounded_small _ _ _ _ p.0 p.1 c.args.colours.now c.recolour-new.result c.recolour-new.ensures.recoloured in
-    (p.0, p.1, side_long _ _ p.0 _ c.recolour-new.ensures.shape.1, side_long _ _ p.1 _ c.recolour-new.ensures.shape.2, left_small _ _ _ _ p.0 p.1 c.recolour-new.result small, right_small _ _ _ _ p.0 p.1 c.recolour-new.result small, (omega (arith, c.requires.4, c.recolour-new.auto.work)), p.5)
+    let small = rounded_small _ _ _ _ c.args.both.now.left.reads c.args.both.now.right.reads c.args.colours.now c.recolour-new.result c.recolour-new.ensures.recoloured in
+    (side_long _ _ c.args.both.now.left.reads _ c.recolour-new.ensures.shape.1, side_long _ _ c.args.both.now.right.reads _ c.recolour-new.ensures.shape.2, left_small _ _ _ _ c.args.both.now.left.reads c.args.both.now.right.reads c.recolour-new.result small, right_small _ _ _ _ c.args.both.now.left.reads c.args.both.now.right.reads c.recolour-new.result small, (omega (arith, c.requires.1, c.recolour-new.auto.work)), p.2)
 
 pub shape_of-work : goal.shape_of-work
 shape_of-work c = c.weigh.ensures.kept.1 ∙ c.recolour-new.auto.work
@@ -36,5 +36,5 @@ shape_of-work c = c.weigh.ensures.kept.1 ∙ c.recolour-new.auto.work
 pub returns : goal.returns
 returns c =
     let p = c.requires in
-    let u = weighed_sides _ _ _ _ p.0 p.1 c.recolour-new.result c.weigh.ensures.weighed in
-    record { state = refined_state c.args.colours.now c.recolour-new.result c.args.work.now c.recolour-new.new.work c.weigh.new.work c.recolour-new.ensures.recoloured c.recolour-new.ensures.work c.weigh.ensures.kept u p.8; kept = refined_kept c.args.colours.now c.recolour-new.result c.args.work.now c.recolour-new.new.work c.weigh.new.work c.recolour-new.ensures.recoloured c.recolour-new.ensures.work c.weigh.ensures.kept u c.recolour-new.ensures.shape; count = u.counted }
+    let u = weighed_sides _ _ _ _ c.args.both.now.left.reads c.args.both.now.right.reads c.recolour-new.result c.weigh.ensures.weighed in
+    record { state = refined_state c.args.colours.now c.recolour-new.result c.args.work.now c.recolour-new.new.work c.weigh.new.work c.recolour-new.ensures.recoloured c.recolour-new.ensures.work c.weigh.ensures.kept u p.5; kept = refined_kept c.args.colours.now c.recolour-new.result c.args.work.now c.recolour-new.new.work c.weigh.new.work c.recolour-new.ensures.recoloured c.recolour-new.ensures.work c.weigh.ensures.kept u c.recolour-new.ensures.shape; count = u.counted }

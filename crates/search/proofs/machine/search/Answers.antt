@@ -7,25 +7,22 @@ use Rattle.search.proofs.Laws.Start.{board_fits, board_long, board_there, work_r
 use Rattle.search.proofs.machine.search.Goals as goal
 
 pub slice_bounds-set_up-end : goal.slice_bounds-set_up-end
-slice_bounds-set_up-end c = board_fits c.args.work.now c.requires.8
+slice_bounds-set_up-end c = board_fits c.args.work.now c.requires.5
 
 pub slice_bounds-set_up-end-2 : goal.slice_bounds-set_up-end-2
-slice_bounds-set_up-end-2 c = sym (board_long c.args.work.now c.requires.8)
+slice_bounds-set_up-end-2 c = sym (board_long c.args.work.now c.requires.5)
 
 pub set_up-cells-requires : goal.set_up-cells-requires
-set_up-cells-requires c = (c.requires.0, c.requires.1, c.requires.4, board_long c.args.work.now c.requires.8)
-
-pub first_colours-start-requires : goal.first_colours-start-requires
-first_colours-start-requires c = let p = c.requires in (p.0, p.1)
+set_up-cells-requires c = board_long c.args.work.now c.requires.5
 
 pub run-answer-requires : goal.run-answer-requires
 run-answer-requires c =
     let k = c.requires in
     let w = c.args.work.now in
-    (k.0, k.1, k.2, k.3, k.4, k.5, board_there w k.8 c.set_up-cells.new.board c.set_up-cells.auto.board _ _ _ c.set_up-cells.ensures, c.first_colours-start.ensures.shape, k.7, work_room_lem w k.8 c.set_up-cells.new.board c.set_up-cells.auto.board, first_small _ _ (reads_formed _ _ k.0) (reads_formed _ _ k.1) _ _ k.6 _ c.first_colours-start.ensures.colours)
+    (k.0, k.1, k.2, board_there w k.5 c.set_up-cells.new.board c.set_up-cells.auto.board _ _ _ c.set_up-cells.ensures, c.first_colours-start.ensures.shape, k.4, work_room_lem w k.5 c.set_up-cells.new.board c.set_up-cells.auto.board, first_small _ _ (reads_formed _ _ c.args.both.now.left.reads) (reads_formed _ _ c.args.both.now.right.reads) _ _ k.3 _ c.first_colours-start.ensures.colours)
 
 pub clear-requires : goal.clear-requires
-clear-requires c = room_left c.args.work.now c.requires.8 c.set_up-cells.new.board c.set_up-cells.auto.board c.run-answer.new.work c.run-answer.ensures.work
+clear-requires c = room_left c.args.work.now c.requires.5 c.set_up-cells.new.board c.set_up-cells.auto.board c.run-answer.new.work c.run-answer.ensures.work
 
 pub returns : goal.returns
-returns c = record { answer = run_answer _ _ _ _ _ _ c.first_colours-start.ensures.colours _ c.run-answer.ensures.answer; output = run_output _ _ _ _ _ _ c.first_colours-start.ensures.colours _ _ c.run-answer.ensures.output; work = cleared_again c.args.work.now c.requires.8 c.set_up-cells.new.board c.set_up-cells.auto.board _ c.run-answer.ensures.work _ c.clear.ensures }
+returns c = record { answer = run_answer _ _ _ _ _ _ c.first_colours-start.ensures.colours _ c.run-answer.ensures.answer; output = run_output _ _ _ _ _ _ c.first_colours-start.ensures.colours _ _ c.run-answer.ensures.output; work = cleared_again c.args.work.now c.requires.5 c.set_up-cells.new.board c.set_up-cells.auto.board _ c.run-answer.ensures.work _ c.clear.ensures }

@@ -1,11 +1,6 @@
-use Rattle.search.proofs.work.clear.Invariants.{start, more, done}
+-- `search::work::clear` meets its contract: the front is filled with zeros. Assumes nothing.
+use Rattle.search.proofs.Laws.Work.{cleared_front}
 use Rattle.search.proofs.work.clear.Goals as goal
 
-pub loop-i-init : goal.loop-i-init
-loop-i-init c = start _
-
-pub loop-i-preserved : goal.loop-i-preserved
-loop-i-preserved c = more _ _ _ c.loop-i.invariant c.requires c.loop-i-test.true
-
 pub returns : goal.returns
-returns c = done _ _ _ c.loop-i.invariant c.loop-i-test.false
+returns c = cleared_front _ _ _ c.requires (c.fill.ensures.after (λ y e. e))

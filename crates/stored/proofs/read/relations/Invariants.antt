@@ -1,10 +1,11 @@
 -- `stored::read::relations` meets its contract. The invariant: the relations read so far, whose layout is at hand, stand before what is still
--- to be read, and together these are what the whole rest holds. The measure is the number of relations still allowed. Assumes nothing.
+-- to be read, and together these are what the whole rest holds. Assumes nothing.
 use Prim.Native.Nat.{ℕ, suc, ◌+◌, ◌-◌, ◌*◌, ◌≤◌, ◌<◌}
 use mathlib.Core.Path.{◌≡◌, refl, sym, ◌∙◌, ap}
 use mathlib.Core.List.{List, [], ◌∷◌, ◌++◌, append-nil, append_assoc}
 use native.Mathlib.Omega.{arith}
 use lib.ListN.{length, length-append}
+use Rattle.std.proofs.Common.{Result, Ok, Err}
 use Rattle.lists.specs.Numbers.{sum}
 use Rattle.lists.specs.Part.{part}
 use Rattle.stored.specs.declared.refusal.Fault.{Fault}
@@ -12,15 +13,13 @@ use Rattle.stored.specs.declared.field.Cursor.{Cursor}
 use Rattle.stored.specs.declared.layout.Layout.{Layout}
 use Rattle.stored.specs.declared.read.Item.{Item}
 use Rattle.stored.specs.declared.read.Item.TheVariants as item
-use Rattle.stored.specs.declared.read.Answer.TheVariants as answer
-use Rattle.stored.specs.declared.read.Reading.{Reading}
 use Rattle.stored.specs.Field.{fault_at}
 use Rattle.stored.specs.Limits.{max_relations, max_cells}
 use Rattle.stored.specs.Relation.{cells_of}
 use Rattle.stored.specs.Model.{Rel}
 use Rattle.stored.specs.Parse.{item_at, relation_of, Rest, relations, broken, before, rest_at, model_with}
 use Rattle.stored.specs.Layout.{rows_from, layout_of, with_relation}
-use Rattle.stored.specs.Reading.{refused_with, reading_of, begun_with, Begun, last_reading}
+use Rattle.stored.specs.Reading.{reading_of, begun_with, Begun, last_reading}
 use Rattle.stored.proofs.Laws.Parse.{Found, item_found, rest_end, rest_fault, rest_too_many, rest_more}
 use Rattle.stored.proofs.Laws.WellFormed.{Measured, found_measured}
 use Rattle.stored.proofs.Laws.Layout.{past_of, past_none, past_more, having, layout_more}
@@ -42,9 +41,6 @@ after_before rs r (relations qs) = ap relations (sym (append_assoc rs (r ∷ [])
 after_before rs r (broken f) = refl
 
 module _ (sizes s roots : List ℕ) (at₀ : ℕ) where
-  pub whole : Reading
-  whole = reading_of (model_with sizes roots (rest_at max_relations sizes max_cells s at₀))
-
   pub record Upto (cursor : Cursor) (l : Layout) (room allowed : ℕ) : Type 0 where
     pub few : length sizes ≤ 16
     pub sofar : List Rel
@@ -69,13 +65,13 @@ module _ (sizes s roots : List ℕ) (at₀ : ℕ) where
     pub decides : (x : Rest) → rest_at allowed sizes room s cursor.at ≡ x → reading_of (model_with sizes roots (after u.sofar x)) ≡ reading_of (model_with sizes roots (rest_at max_relations sizes max_cells s at₀))
     decides x e = ap (λ (y : Rest). reading_of (model_with sizes roots y)) (ap (after u.sofar) (sym e) ∙ u.same)
 
-    pub reading_end : item_at sizes room s cursor.at ≡ item.End → record { answer = answer.Model; layout = l } ≡ reading_of (model_with sizes roots (rest_at max_relations sizes max_cells s at₀))
+    pub reading_end : item_at sizes room s cursor.at ≡ Ok item.End → Ok l ≡ reading_of (model_with sizes roots (rest_at max_relations sizes max_cells s at₀))
     unfolding reading_of model_with after
     reading_end e =
-        ap (λ (x : Layout). record { answer = answer.Model; layout = x }) (u.laid_out ∙ ap (λ (rs : List Rel). layout_of (having sizes roots rs)) (sym (append-nil u.sofar)))
+        ap (λ (x : Layout). Ok x) (u.laid_out ∙ ap (λ (rs : List Rel). layout_of (having sizes roots rs)) (sym (append-nil u.sofar)))
         ∙ decides (relations []) (rest_end sizes room s cursor.at allowed e)
 
-    pub reading_fault : (f : Fault) → item_at sizes room s cursor.at ≡ item.Fault f → refused_with f ≡ reading_of (model_with sizes roots (rest_at max_relations sizes max_cells s at₀))
+    pub reading_fault : (f : Fault) → item_at sizes room s cursor.at ≡ Err f → Err f ≡ reading_of (model_with sizes roots (rest_at max_relations sizes max_cells s at₀))
     unfolding reading_of model_with after
     reading_fault f e = decides (broken f) (rest_fault sizes room s cursor.at allowed f e)
 
@@ -83,10 +79,10 @@ module _ (sizes s roots : List ℕ) (at₀ : ℕ) where
     unfolding last_reading reading_of model_with after
     reading_last h = by_item (item_at sizes room s cursor.at) refl
       where
-        by_item : (i : Item) → item_at sizes room s cursor.at ≡ i → last_reading sizes room s cursor.at l ≡ reading_of (model_with sizes roots (rest_at max_relations sizes max_cells s at₀))
-        by_item item.End e = rw (e, last_reading) (reading_end e)
-        by_item (item.Fault f) e = rw (e, last_reading) (reading_fault f e)
-        by_item (item.Relation start len a c past) e =
+        by_item : (i : Result Item Fault) → item_at sizes room s cursor.at ≡ i → last_reading sizes room s cursor.at l ≡ reading_of (model_with sizes roots (rest_at max_relations sizes max_cells s at₀))
+        by_item (Ok item.End) e = rw (e, last_reading) (reading_end e)
+        by_item (Err f) e = rw (e, last_reading) (reading_fault f e)
+        by_item (Ok (item.Relation start len a c past)) e =
             let z : allowed ≡ 0 = omega arith in
             rw (e, last_reading)
             (decides (broken (fault_at cursor.at)) (ap (λ (k : ℕ). rest_at k sizes room s cursor.at) z ∙ rest_too_many sizes room s cursor.at start len a c past e))
@@ -95,7 +91,7 @@ module _ (sizes s roots : List ℕ) (at₀ : ℕ) where
     unfolding layout_of
     room_for_one h = let e : l.relations ≡ length u.sofar = ap (λ (x : Layout). x.relations) u.laid_out in omega (arith, u.together)
 
-    module _ (h : 0 < allowed) (start len a c : ℕ) (past : Cursor) (e : item_at sizes room s cursor.at ≡ item.Relation start len a c past) where
+    module _ (h : 0 < allowed) (start len a c : ℕ) (past : Cursor) (e : item_at sizes room s cursor.at ≡ Ok (item.Relation start len a c past)) where
       pub found : Found sizes room s cursor.at start len a c past
       found = item_found sizes room s cursor.at start len a c past e
 
@@ -125,8 +121,5 @@ module _ (sizes s roots : List ℕ) (at₀ : ℕ) where
         same = sym (after_before u.sofar (relation_of (part s start len)) (rest_at (allowed - 1) sizes (room - c * a) s past.at)) ∙ ap (after u.sofar) (sym goes_on) ∙ u.same;
       }
 
-abbrev pub invariant-loop-allowed : goal.invariant-loop-allowed
-invariant-loop-allowed l = Upto l.types l.s (part l.s l.initial.l.roots l.initial.l.size) l.initial.cursor.at l.cursor l.l l.room l.allowed
-
-abbrev pub decreases-loop-allowed : goal.decreases-loop-allowed
-decreases-loop-allowed l = l.allowed
+abbrev pub invariant-loop-k : goal.invariant-loop-k
+invariant-loop-k l = Upto l.types l.s (part l.s l.initial.l.roots l.initial.l.size) l.initial.cursor.at l.cursor l.l l.room (16 - l._k)

@@ -1,17 +1,12 @@
-use Rattle.stored.proofs.relation.row_before.Invariants.{start, longer, decided, more, over}
+-- `stored::relation::row_before` meets its contract. Assumes nothing.
+use mathlib.Core.Path.{refl}
+use native.Mathlib.Omega.{arith}
+use Rattle.std.specs.Ordering.{nat_cmp, is_lt}
+use Rattle.std.proofs.lemmas.Bool.Decides.{nat_tests}
+use Rattle.std.proofs.lemmas.Cmp.{same_from_slice_cmp_tested}
+use Rattle.lists.specs.Order.{row_before}
 use Rattle.stored.proofs.relation.row_before.Goals as goal
 
-pub loop-j-init : goal.loop-j-init
-loop-j-init c = start _ _
-
-pub returns-then-b-j : goal.returns-then-b-j
-returns-then-b-j c = longer c.loop-j.invariant c.loop-j-test.true c.if-b-j.true
-
-pub returns-then-x-y : goal.returns-then-x-y
-returns-then-x-y c = decided c.loop-j.invariant c.loop-j-test.true c.if-b-j.false c.if-x-y.true
-
-pub loop-j-preserved : goal.loop-j-preserved
-loop-j-preserved c = more c.loop-j.invariant c.loop-j-test.true c.if-b-j.false c.if-x-y.false
-
 pub returns : goal.returns
-returns c = over c.loop-j.invariant c.loop-j-test.false
+unfolding row_before
+returns c = same_from_slice_cmp_tested nat_cmp is_lt row_before refl (λ _ _. refl) (λ _ _. refl) (λ x y xs ys o h. grind (arith, nat_tests)) c.args.a.now c.args.b.now _ c.lt.ensures

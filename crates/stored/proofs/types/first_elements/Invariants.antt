@@ -1,6 +1,6 @@
 -- `stored::types::first_elements` meets its contract. The invariant: the table holds the first t of the numbers to be listed, the rest of them
--- start with x, and each type added at most 255 to x; the measure is the number of types left. Assumes nothing.
-use Prim.Native.Nat.{ℕ, ◌<◌, ◌≤◌, ◌+◌, ◌-◌, ◌*◌}
+-- start with x, and each type added at most 255 to x. Assumes nothing.
+use Prim.Native.Nat.{ℕ, ◌<◌, ◌≤◌, ◌+◌, ◌*◌}
 use mathlib.Core.Path.{◌≡◌, refl, sym, ◌∙◌}
 use mathlib.Core.List.{List, [], ◌∷◌, ◌++◌}
 use native.Mathlib.Omega.{arith}
@@ -50,6 +50,3 @@ module _ (types first : List ℕ) (x t : ℕ) (i : Listed types first x t) where
 
 abbrev pub invariant-loop-t : goal.invariant-loop-t
 invariant-loop-t l = Listed l.types l.first l.x l.t
-
-abbrev pub decreases-loop-t : goal.decreases-loop-t
-decreases-loop-t l = length l.types - l.t

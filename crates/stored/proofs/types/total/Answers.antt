@@ -1,18 +1,11 @@
-use native.Mathlib.Omega.{arith}
-use Rattle.stored.proofs.types.total.Invariants.{start, more, done}
+-- `stored::types::total` meets its contract. Assumes nothing.
+use mathlib.Core.Path.{◌∙◌}
+use Prim.Native.Nat.{ℕ}
+use Rattle.std.proofs.Common.{rules}
+use Rattle.std.proofs.lemmas.Iterator.{YieldsList-from_slice, YieldsList-from_map}
+use Rattle.std.proofs.lemmas.Iterator.Consumers.{sum_by_from_yields_List}
+use Rattle.stored.proofs.Laws.Chains.{sum_by_sum}
 use Rattle.stored.proofs.types.total.Goals as goal
 
-pub loop-t-init : goal.loop-t-init
-loop-t-init c = start _
-
-pub overflow_cast-n : goal.overflow_cast-n
-overflow_cast-n c = omega (arith, c.type_inv.types c.loop-t.t)
-
-pub overflow_add-n : goal.overflow_add-n
-overflow_add-n c = omega (arith, c.type_inv.types c.loop-t.t)
-
-pub loop-t-preserved : goal.loop-t-preserved
-loop-t-preserved c = more _ _ _ c.loop-t.invariant c.loop-t-test.true (omega (arith, c.type_inv.types c.loop-t.t))
-
 pub returns : goal.returns
-returns c = done _ _ _ c.loop-t.invariant c.loop-t-test.false
+returns c = sum_by_from_yields_List (λ (x : ℕ). x) c.args.types.now c.map.result _ c.sum.ensures.ran (YieldsList-from_map _ (λ (x : ℕ). x) (YieldsList-from_slice c.args.types.now cc) c.map.ensures.closure (λ x r q k. search rules)) ∙ sum_by_sum _

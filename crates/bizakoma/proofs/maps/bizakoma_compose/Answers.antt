@@ -1,8 +1,0 @@
--- `bizakoma::maps::bizakoma_compose` meets its contract: what the call ensures, told. Assumes nothing.
-use Rattle.bizakoma.proofs.Told.{told}
-use Rattle.bizakoma.proofs.maps.bizakoma_compose.Goals as goal
-
-pub returns : goal.returns
-returns c =
-    let t = told c.compose-answer.ensures.answer (c.tell_answer.ensures.number, c.tell_answer.ensures.carried) in
-    record { number = t.0; carried = t.1; output = c.compose-answer.ensures.output }

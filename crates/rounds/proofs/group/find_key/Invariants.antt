@@ -1,9 +1,0 @@
--- `rounds::group::find_key` meets its contract. The invariant: p leads to the last holder of the bucket that was not looked at (`Seeking`); the measure is p. Assumes nothing.
-use Rattle.rounds.proofs.Laws.Holders.{Seeking}
-use Rattle.rounds.proofs.group.find_key.Given as goal
-
-abbrev pub invariant-loop-p : goal.invariant-loop-p
-invariant-loop-p l = Seeking l.initial.board l.cells l.holders l.marks l.heads l.links l.count l.x l.mark l.board l.p
-
-abbrev pub decreases-loop-p : goal.decreases-loop-p
-decreases-loop-p l = l.p

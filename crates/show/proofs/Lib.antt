@@ -1,0 +1,2 @@
+pub mod Representatives
+pub mod Columns
