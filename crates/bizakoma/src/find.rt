@@ -27,6 +27,7 @@ pub extern "C" fn bizakoma_find(
 }
 
 // An isomorphism that takes each pair's first to its second.
+// Of one shape with another export: the C interface has a function for each call.
 #[unsafe(no_mangle)]
 pub extern "C" fn bizakoma_find_with_pairs(
     left: &[u8],

@@ -28,6 +28,7 @@ pub extern "C" fn bizakoma_identity(model: &[u8], map: &mut [u8], carried: &mut 
 }
 
 // Whether a pair list gives a map: the map, or why not.
+// Of one shape with another export: the C interface has a function for each call.
 #[unsafe(no_mangle)]
 pub extern "C" fn bizakoma_check(
     source: &[u8],
@@ -61,6 +62,7 @@ pub extern "C" fn bizakoma_apply(
 }
 
 // One map, then another.
+// Of one shape with another export: the C interface has a function for each call.
 #[unsafe(no_mangle)]
 pub extern "C" fn bizakoma_compose(
     source: &[u8],
@@ -80,6 +82,7 @@ pub extern "C" fn bizakoma_compose(
 }
 
 // The inverse of a map, or that there is none.
+// Of one shape with another export: the C interface has a function for each call.
 #[unsafe(no_mangle)]
 pub extern "C" fn bizakoma_inverse(
     source: &[u8],

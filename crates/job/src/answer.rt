@@ -24,6 +24,7 @@ const WORK_ROOM: usize = 32768;
 const LINE_ROOM: usize = 1408;
 
 // A line: the first `length` bytes of `text`.
+// A buffer with a length beside: the program has no heap.
 #[derive(Drop)]
 pub struct Line {
     pub text: [u8; LINE_ROOM],
@@ -52,6 +53,7 @@ fn put_numbers(line: &mut [u8], number: u64, values: &[u64]) -> usize
 }
 
 // The number of a refusal, and the values it carries.
+// Written by hand: the line is made in a buffer of fixed size, with no heap.
 fn put_refusal(line: &mut [u8], refusal: Refusal) -> usize
     requires { numbers_room ≤ length line.old }
     ensures added { Added line.old 0 (listed (refusalNumbers refusal)) result line.new }
@@ -77,6 +79,7 @@ fn put_refusal(line: &mut [u8], refusal: Refusal) -> usize
 }
 
 // The number of an answer, and the values it carries.
+// Written by hand: the line is made in a buffer of fixed size, with no heap.
 fn put_answer(line: &mut [u8], answer: Answer) -> usize
     requires { numbers_room ≤ length line.old }
     ensures added { Added line.old 0 (listed (numbers answer)) result line.new }

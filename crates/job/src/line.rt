@@ -4,6 +4,7 @@ ghost use Rattle.job.specs.Line.{decimal, entry, spaced};
 ghost use Rattle.job.specs.Writing.{Added};
 
 // Bytes.
+// Written by hand: the line is made in a buffer of fixed size, with no heap.
 pub(crate) fn put(line: &mut [u8], at: usize, bytes: &[u8]) -> usize
     requires { at + length bytes.now ≤ length line.old }
     ensures { Added line.old at bytes.now result line.new }
@@ -14,6 +15,7 @@ pub(crate) fn put(line: &mut [u8], at: usize, bytes: &[u8]) -> usize
 }
 
 // A number, in decimal.
+// Written by hand: the line is made in a buffer of fixed size, with no heap.
 #[tactic(auto, using(crate::proofs::Laws::Digits::decimal_digits))]
 pub(crate) fn put_number(line: &mut [u8], at: usize, n: u64) -> usize
     requires { at + 20 ≤ length line.old }

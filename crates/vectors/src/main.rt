@@ -37,7 +37,7 @@ fn replay_input(rt: &impl Print, buffer: &mut [u8]) -> Result<()> {
     }
 }
 
-// Where writing fails the output ends: the status is 0 all the same.
+// Where writing fails the output ends: the status is 0 all the same. The input's buffer has a fixed size, so that a longer input is seen to be one.
 fn main(rt: HostRuntime) -> Result<()> {
     let mut buffer = [0; 1048576];
     let _ = replay_input(&rt, &mut buffer);
