@@ -40,10 +40,12 @@ fn row_typed(types: &[u8], n: usize, columns: &[u8], row: &[u8]) -> bool
     requires { (length types.now ≤ max_types) × (n ≡ sum types.now) × (length columns.now ≡ length row.now) }
     ensures { result ≡ row_typed types.now columns.now row.now }
 {
-    columns
-        .iter()
-        .zip(row)
-        .all(|(c, x)| entry_typed(types, n, *c, *x))
+    for (j, column) in columns.iter().enumerate() {
+        if !entry_typed(types, n, *column, row[j]) {
+            return false;
+        }
+    }
+    true
 }
 
 // Whether the entries of every row have their columns' types.
@@ -59,7 +61,15 @@ fn rows_typed(types: &[u8], n: usize, columns: &[u8], rows: &[u8], count: usize)
 pub(crate) fn row_before(a: &[u8], b: &[u8]) -> bool
     ensures { result ≡ row_before a.now b.now }
 {
-    a < b
+    for (j, x) in a.iter().enumerate() {
+        if b.len() <= j {
+            return false;
+        }
+        if *x != b[j] {
+            return *x < b[j];
+        }
+    }
+    a.len() < b.len()
 }
 
 // Whether each row stands strictly before the next.

@@ -22,7 +22,8 @@ fn root_holds(types: &[u8], roots: &[u8], x: usize) -> bool
     its_type == own_type && usize::from(roots[root]) == root
 }
 
-// Whether the value keeps the rules.
+// Whether the value keeps the rules. A call of its own: within its caller the loop has too few registers.
+#[inline(never)]
 pub(crate) fn roots_hold(types: &[u8], roots: &[u8]) -> bool
     requires { types_hold types.now ≡ true }
     ensures { result ≡ roots_hold types.now roots.now }

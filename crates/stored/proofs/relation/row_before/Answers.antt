@@ -1,12 +1,15 @@
--- `stored::relation::row_before` meets its contract. Assumes nothing.
-use mathlib.Core.Path.{refl}
 use native.Mathlib.Omega.{arith}
-use Rattle.std.specs.Ordering.{nat_cmp, is_lt}
-use Rattle.std.proofs.lemmas.Bool.Decides.{nat_tests}
-use Rattle.std.proofs.lemmas.Cmp.{same_from_slice_cmp_tested}
-use Rattle.lists.specs.Order.{row_before}
+use Rattle.stored.proofs.relation.row_before.Invariants.{longer, decided, more, over}
 use Rattle.stored.proofs.relation.row_before.Goals as goal
 
+pub returns-then-b-j : goal.returns-then-b-j
+returns-then-b-j c = longer c.loop-j.invariant c.loop-j-test.true c.if-b-j.true
+
+pub returns-then-x-b : goal.returns-then-x-b
+returns-then-x-b c = decided c.loop-j.invariant c.loop-j-test.true (omega (arith, c.if-b-j.false)) c.if-x-b.true
+
+pub loop-j-preserved : goal.loop-j-preserved
+loop-j-preserved c = more c.loop-j.invariant c.loop-j-test.true (omega (arith, c.if-b-j.false)) c.if-x-b.false
+
 pub returns : goal.returns
-unfolding row_before
-returns c = same_from_slice_cmp_tested nat_cmp is_lt row_before refl (λ _ _. refl) (λ _ _. refl) (λ x y xs ys o h. grind (arith, nat_tests)) c.args.a.now c.args.b.now _ c.lt.ensures
+returns c = over c.loop-j.invariant (omega (arith, c.loop-j-test.false)) c.loop-j.auto.j-end
