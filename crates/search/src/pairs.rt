@@ -19,8 +19,12 @@ use stored::refusal::Refusal;
 pub(crate) fn pairs_hold(left: &File<'_>, right: &File<'_>, pairs: &[u8]) -> Result<(), Refusal>
     ensures { result ≡ pairs_from (pair_count pairs.now) (held left.now) (held right.now) pairs.now 0 }
 {
+    let types = left.types();
+    let other_types = right.types();
+    let n = left.size();
+    let other_n = right.size();
     for place in 0..pairs.len() / 2 {
-        pair_at(left, right, pairs, place)?;
+        pair_at(types, n, other_types, other_n, pairs, place)?;
     }
     Ok(())
 }

@@ -1,6 +1,6 @@
 -- The laws of pair lists: one pair and one image case by case, and from a pair on. Assumes nothing.
 use Prim.Native.Nat.{ℕ, suc, ◌+◌, ◌-◌, ◌*◌, ◌<◌, ◌≤◌}
-use mathlib.Core.Path.{◌≡◌, refl, ◌∙◌, ap}
+use mathlib.Core.Path.{◌≡◌, refl, ◌∙◌, ap, ap₂}
 use mathlib.Core.Bool.{true, false, not}
 use mathlib.Core.Logic.{◌⊎◌, inl, inr}
 use mathlib.Core.List.{List}
@@ -8,7 +8,7 @@ use native.Mathlib.Omega.{arith}
 use borrow.Author.Tests.{lt-ltb, le-ltb, ltb-true, ltb-false, eq-eqb, ne_eqb}
 use lib.Dec.{eqb, ltb}
 use lib.ListN.{length, get_or, set}
-use Rattle.std.proofs.Common.{Ok, Err}
+use Rattle.std.proofs.Common.{Result, Ok, Err}
 use Rattle.lists.specs.Numbers.{sum}
 use Rattle.lists.proofs.Laws.Tests.{split}
 use Rattle.stored.specs.declared.refusal.Refusal.{Refusal}
@@ -52,6 +52,10 @@ module _ (sizes sizes' pairs : List ℕ) (i : ℕ) where
       by_tests (inl l) (inl r) = (ltb-true _ _ l, ltb-true _ _ r)
       by_tests (inl l) (inr r) = not_bad _ (pair_right_unknown (ltb-true _ _ l) (ltb-false _ _ r))
       by_tests (inr l) r = not_bad _ (pair_left_unknown (ltb-false _ _ l))
+
+-- one pair of two models, by their types as they are handed on
+pub pair_by_types : (a b : Model) (pairs : List ℕ) (i : ℕ) {types types' : List ℕ} {r : Result (Unit {0}) Refusal} → types ≡ a.sizes → types' ≡ b.sizes → r ≡ pair_in types types' pairs i → r ≡ pair_at a b pairs i
+pair_by_types a b pairs i e f g = g ∙ ap₂ (λ (x y : List ℕ). pair_in x y pairs i) e f
 
 -- one image
 module _ (f : List ℕ) (x y : ℕ) where

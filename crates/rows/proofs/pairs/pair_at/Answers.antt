@@ -27,14 +27,14 @@ module _ (sizes sizes' pairs : List ℕ) (i n : ℕ) (p : n ≡ sum sizes) where
       good : x ≡ y → Ok tt ≡ pair_in sizes sizes' pairs i
       good d = sym (pair_good sizes sizes' pairs i (omega arith) (omega arith) (sym e ∙ d ∙ e'))
 
-pub returns-then-size-element : goal.returns-then-size-element
-returns-then-size-element c = left_unknown _ _ _ _ _ c.size.ensures c.if-size-element.true
+pub returns-then-n-left : goal.returns-then-n-left
+returns-then-n-left c = left_unknown _ _ _ _ _ c.requires.2 c.if-n-left.true
 
-pub returns-then-size-image : goal.returns-then-size-image
-returns-then-size-image c = right_unknown _ _ _ _ _ c.size.ensures c.if-size-element.false _ c.size-2.ensures c.if-size-image.true
+pub returns-then-other_n-right : goal.returns-then-other_n-right
+returns-then-other_n-right c = right_unknown _ _ _ _ _ c.requires.2 c.if-n-left.false _ c.requires.3 c.if-other_n-right.true
 
-pub returns-then-own_type-its_type : goal.returns-then-own_type-its_type
-returns-then-own_type-its_type c = differ _ _ _ _ _ c.size.ensures c.if-size-element.false _ c.size-2.ensures c.if-size-image.false _ _ c.type_of-own_type.ensures c.type_of-its_type.ensures c.if-own_type-its_type.true
+pub returns-then-left_type-right_type : goal.returns-then-left_type-right_type
+returns-then-left_type-right_type c = differ _ _ _ _ _ c.requires.2 c.if-n-left.false _ c.requires.3 c.if-other_n-right.false _ _ c.type_in-left_type.ensures c.type_in-right_type.ensures c.if-left_type-right_type.true
 
 pub returns : goal.returns
-returns c = good _ _ _ _ _ c.size.ensures c.if-size-element.false _ c.size-2.ensures c.if-size-image.false _ _ c.type_of-own_type.ensures c.type_of-its_type.ensures c.if-own_type-its_type.false
+returns c = good _ _ _ _ _ c.requires.2 c.if-n-left.false _ c.requires.3 c.if-other_n-right.false _ _ c.type_in-left_type.ensures c.type_in-right_type.ensures c.if-left_type-right_type.false
