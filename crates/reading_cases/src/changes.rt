@@ -2,7 +2,9 @@
 ghost use Rattle.std.specs.Prelude.{◌≤◌, ◌<◌, ◌+◌, length, IfOk};
 
 use crate::answer::Answer;
-use std::{fmt, io};
+use crate::output::Output;
+use std::fmt;
+use std::fmt::Write;
 
 // Equal answers in a row: which, and how many.
 #[derive(Clone, Copy)]
@@ -19,7 +21,7 @@ impl fmt::Display for Run {
 
 impl Run {
     // The run with one answer more. If that is another answer, the run is written, and a new one begins.
-    fn with(self, answer: Answer, out: &impl Print) -> io::Result<Run>
+    fn with(self, answer: Answer, out: &mut Output) -> Result<Run, fmt::Error>
         requires { self.count < 256 }
         ensures { IfOk result (λ run. run.count ≤ self.count + 1) }
     {
@@ -30,14 +32,14 @@ impl Run {
             });
         }
         if 0 < self.count {
-            print!(out; "{self} ")?;
+            write!(out, "{self} ")?;
         }
         Ok(Run { answer, count: 1 })
     }
 }
 
 // The line for byte i, which stands as it was in the end.
-fn replay_byte(out: &impl Print, file: &mut [u8], i: usize) -> io::Result<()>
+fn replay_byte(out: &mut Output, file: &mut [u8], i: usize) -> fmt::Result
     requires { i < length file.old }
 {
     let old = file[i];
@@ -52,11 +54,11 @@ fn replay_byte(out: &impl Print, file: &mut [u8], i: usize) -> io::Result<()>
         }
     }
     file[i] = old;
-    println!(out; "{run}")
+    writeln!(out, "{run}")
 }
 
 // A line for each byte.
-pub(crate) fn replay(out: &impl Print, file: &mut [u8]) -> io::Result<()> {
+pub(crate) fn replay(out: &mut Output, file: &mut [u8]) -> fmt::Result {
     for i in 0..file.len() {
         replay_byte(out, file, i)?;
     }

@@ -1,31 +1,33 @@
 // The lines of the input, each a case.
 use crate::answer::{Answer, Cuts};
 use crate::changes;
-use std::io;
+use crate::output::Output;
+use std::fmt;
+use std::fmt::Write;
 
 // The most bytes of a file in a case. A good file has at most 2,361.
 const MOST: usize = 4096;
 
 // A line that is no case.
-fn replay_broken(out: &impl Print) -> io::Result<()> {
-    println!(out; "?")
+fn replay_broken(out: &mut Output) -> fmt::Result {
+    writeln!(out, "?")
 }
 
 // A case by its kind.
-fn replay_kind(out: &impl Print, kind: u8, file: &mut [u8]) -> io::Result<()> {
+fn replay_kind(out: &mut Output, kind: u8, file: &mut [u8]) -> fmt::Result {
     match kind {
         b'=' => match Answer::on(file).0 {
-            None => println!(out; "model"),
-            Some(fault) => println!(out; "{}", fault.offset),
+            None => writeln!(out, "model"),
+            Some(fault) => writeln!(out, "{}", fault.offset),
         },
-        b'<' => println!(out; "{}", Cuts(file)),
+        b'<' => writeln!(out, "{}", Cuts(file)),
         b'~' => changes::replay(out, file),
         _ => replay_broken(out),
     }
 }
 
 // A line. One with more bytes than there is room for is broken, and so is one with a digit in upper case, which `hex` would take.
-fn replay(out: &impl Print, line: &[u8]) -> io::Result<()> {
+fn replay(out: &mut Output, line: &[u8]) -> fmt::Result {
     let Some((kind, digits)) = line.split_first() else {
         return replay_broken(out);
     };
@@ -42,7 +44,7 @@ fn replay(out: &impl Print, line: &[u8]) -> io::Result<()> {
 }
 
 // All lines. The last may have no line feed.
-pub(crate) fn replay_all(out: &impl Print, text: &[u8]) -> io::Result<()> {
+pub(crate) fn replay_all(out: &mut Output, text: &[u8]) -> fmt::Result {
     for line in text.split_inclusive(|c| *c == b'\n') {
         replay(out, line.strip_suffix(b"\n").unwrap_or(line))?;
     }

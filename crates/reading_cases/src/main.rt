@@ -13,21 +13,27 @@
 mod answer;
 mod changes;
 mod lines;
+mod output;
 
-use std::io;
-use std::io::Read;
+use output::Output;
+use std::fmt;
+use std::fmt::Write;
 
 // An input of so many bytes or more is not replayed, since it may go on past the room for it.
 const TOO_MANY: usize = 262144;
 
-// Where reading fails the input ends, and where writing fails the output: the status is 0 all the same.
-fn main(rt: HostRuntime) -> io::Result<()> {
-    let mut input = Vec::with_capacity(rt.alloc(), TOO_MANY)?;
-    let _ = rt.reader().take(TOO_MANY as u64).read_to_end(&mut input);
-    let _ = if input.len() < TOO_MANY {
-        lines::replay_all(&rt, &input)
+// Replays the input, unless there is too much of it.
+fn replay_input(out: &mut Output, text: &[u8]) -> fmt::Result {
+    if text.len() < TOO_MANY {
+        lines::replay_all(out, text)
     } else {
-        println!(rt; "too many cases")
-    };
-    Ok(())
+        writeln!(out, "too many cases")
+    }
+}
+
+// Where reading fails the input ends. The input's buffer has a fixed size, since the program has no heap.
+fn main() {
+    let mut input = [0; TOO_MANY];
+    let n = io::read_full(0, &mut input);
+    let _ = replay_input(&mut Output, &input[..n]);
 }

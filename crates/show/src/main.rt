@@ -3,9 +3,11 @@
 #![tactic(auto)]
 
 mod model;
+mod output;
 
-use std::io;
-use std::io::Read;
+use output::Output;
+use std::fmt;
+use std::fmt::Write;
 use stored::file::File;
 
 // The most bytes of standard input that are read. That is enough: a good file has at most 2,361 bytes, and so have the fields before the first that is at
@@ -13,17 +15,16 @@ use stored::file::File;
 const MOST: usize = 4096;
 
 // Says what some bytes hold.
-fn show(out: &impl Print, s: &[u8]) -> io::Result<()> {
+fn show(out: &mut Output, s: &[u8]) -> fmt::Result {
     match File::read(s) {
         Ok(file) => model::show_model(out, &file),
-        Err(fault) => println!(out; "malformed: the field at offset {}", fault.offset),
+        Err(fault) => writeln!(out, "malformed: the field at offset {}", fault.offset),
     }
 }
 
-// Where reading fails the input ends, and where writing fails the output: the status is 0 all the same.
-fn main(rt: HostRuntime) -> io::Result<()> {
-    let mut input = Vec::with_capacity(rt.alloc(), MOST)?;
-    let _ = rt.reader().take(MOST as u64).read_to_end(&mut input);
-    let _ = show(&rt, &input);
-    Ok(())
+// Where reading fails the input ends. The input's buffer has a fixed size, since the program has no heap.
+fn main() {
+    let mut input = [0; MOST];
+    let n = io::read_full(0, &mut input);
+    let _ = show(&mut Output, &input[..n]);
 }

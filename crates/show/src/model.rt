@@ -3,7 +3,9 @@ ghost use Rattle.std.specs.Prelude.{◌≡◌, ◌<◌, length};
 ghost use Rattle.stored.specs.File.{held};
 ghost use Rattle.show.specs.Representatives.{representatives_from};
 
-use std::{fmt, io};
+use crate::output::Output;
+use std::fmt;
+use std::fmt::Write;
 use stored::file::File;
 
 // Bytes as numbers, a space before each.
@@ -34,15 +36,16 @@ fn representatives(roots: &[u8]) -> usize
 }
 
 // How many types there are, and how many elements each has.
-fn show_types(out: &impl Print, file: &File<'_>) -> io::Result<()> {
+fn show_types(out: &mut Output, file: &File<'_>) -> fmt::Result {
     let types = file.types();
-    println!(out; "types {}:{}", types.len(), Spaced(types))
+    writeln!(out, "types {}:{}", types.len(), Spaced(types))
 }
 
 // How many elements there are, and how many of them are their own representative.
-fn show_elements(out: &impl Print, file: &File<'_>) -> io::Result<()> {
+fn show_elements(out: &mut Output, file: &File<'_>) -> fmt::Result {
     let roots = file.roots();
-    println!(out;
+    writeln!(
+        out,
         "elements {}\nrepresentatives {}",
         roots.len(),
         representatives(roots)
@@ -50,10 +53,11 @@ fn show_elements(out: &impl Print, file: &File<'_>) -> io::Result<()> {
 }
 
 // A relation's number, the types of its columns, and how many rows it has.
-fn show_relation(out: &impl Print, file: &File<'_>, k: usize) -> io::Result<()>
+fn show_relation(out: &mut Output, file: &File<'_>, k: usize) -> fmt::Result
     requires { k < length (held file.now).relations }
 {
-    println!(out;
+    writeln!(
+        out,
         "relation {k}: columns{}, rows {}",
         Spaced(file.columns(k)),
         file.rows(k).count
@@ -61,8 +65,8 @@ fn show_relation(out: &impl Print, file: &File<'_>, k: usize) -> io::Result<()>
 }
 
 // How many relations there are, and each of them.
-fn show_relations(out: &impl Print, file: &File<'_>) -> io::Result<()> {
-    println!(out; "relations {}", file.relations())?;
+fn show_relations(out: &mut Output, file: &File<'_>) -> fmt::Result {
+    writeln!(out, "relations {}", file.relations())?;
     for k in 0..file.relations() {
         show_relation(out, file, k)?;
     }
@@ -70,13 +74,13 @@ fn show_relations(out: &impl Print, file: &File<'_>) -> io::Result<()> {
 }
 
 // The whole model, and whether it is canonical.
-pub(crate) fn show_model(out: &impl Print, file: &File<'_>) -> io::Result<()> {
+pub(crate) fn show_model(out: &mut Output, file: &File<'_>) -> fmt::Result {
     let form = if file.is_canonical() {
         "canonical"
     } else {
         "not canonical"
     };
-    println!(out; "model, {form}")?;
+    writeln!(out, "model, {form}")?;
     show_types(out, file)?;
     show_elements(out, file)?;
     show_relations(out, file)

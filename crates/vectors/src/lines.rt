@@ -1,9 +1,11 @@
 // The lines of the input, each a call.
+use crate::output::Output;
 use crate::reply::Reply;
 use crate::{finds, maps};
 use rows::check::check;
 use rows::inverse::inverse;
-use std::io::Result;
+use std::fmt;
+use std::fmt::Write;
 
 // What is answered on a line; none where it is no call.
 fn replay(line: &[u8]) -> Option<Reply> {
@@ -49,12 +51,12 @@ fn replay(line: &[u8]) -> Option<Reply> {
 }
 
 // All lines.
-pub(crate) fn replay_all(rt: &impl Print, text: &[u8]) -> Result<()> {
+pub(crate) fn replay_all(out: &mut Output, text: &[u8]) -> fmt::Result {
     for line in text.split_inclusive(|c| *c == b'\n') {
         let line = line.strip_suffix(b"\n").unwrap_or(line);
         match replay(line) {
-            Some(reply) => println!(rt; "{reply}")?,
-            None => println!(rt; "?")?,
+            Some(reply) => writeln!(out, "{reply}")?,
+            None => writeln!(out, "?")?,
         }
     }
     Ok(())

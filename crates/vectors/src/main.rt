@@ -23,23 +23,25 @@ mod finds;
 mod lines;
 mod maps;
 mod numbers;
+mod output;
 mod reply;
 
-use std::io::Result;
+use output::Output;
+use std::fmt;
+use std::fmt::Write;
 
 // Replays the input, read into a buffer. One that fills the buffer is not replayed, since it may go on past it.
-fn replay_input(rt: &impl Print, buffer: &mut [u8]) -> Result<()> {
+fn replay_input(out: &mut Output, buffer: &mut [u8]) -> fmt::Result {
     let n = io::read_full(0, buffer);
     if n < buffer.len() {
-        lines::replay_all(rt, &buffer[..n])
+        lines::replay_all(out, &buffer[..n])
     } else {
-        println!(rt; "too many calls")
+        writeln!(out, "too many calls")
     }
 }
 
-// Where writing fails the output ends: the status is 0 all the same. The input's buffer has a fixed size, so that a longer input is seen to be one.
-fn main(rt: HostRuntime) -> Result<()> {
+// Where reading fails the input ends. The input's buffer has a fixed size, so that a longer input is seen to be one.
+fn main() {
     let mut buffer = [0; 1048576];
-    let _ = replay_input(&rt, &mut buffer);
-    Ok(())
+    let _ = replay_input(&mut Output, &mut buffer);
 }

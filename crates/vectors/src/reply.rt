@@ -31,9 +31,11 @@ pub(crate) enum Work {
     Other,
 }
 
-// Whether all entries are this one.
+// Whether all entries are this one. Each is looked at, which costs less than to stop at the first other.
 fn are_all(entries: &[u16], entry: u16) -> bool {
-    entries.iter().all(|e| *e == entry)
+    entries
+        .iter()
+        .fold(true, |so_far, e| so_far & (*e == entry))
 }
 
 // Whether the entries that a call may use are zero, and the rest as before the call.

@@ -3,4 +3,4 @@ use Prim.Native.Nat.{◌≤◌}
 use Rattle.reading_cases.proofs.changes.replay_byte.Given as goal
 
 abbrev pub invariant-loop-value : goal.invariant-loop-value
-invariant-loop-value g l = l.run.count ≤ l.value
+invariant-loop-value l = l.run.count ≤ l.value

@@ -1,0 +1,13 @@
+// Standard output.
+use std::fmt;
+
+// Text goes to standard output as it comes. What can't be written is passed over, and what comes after it is tried, so that no write of text fails.
+#[derive(Drop)]
+pub(crate) struct Output;
+
+impl fmt::Write for Output {
+    fn write_str(&mut self, text: &str) -> fmt::Result {
+        io::write_all(1, text.as_bytes());
+        Ok(())
+    }
+}
