@@ -2,6 +2,7 @@
 use std::fmt;
 
 // Text goes to standard output as it comes. What can't be written is passed over, and what comes after it is tried, so that no write of text fails.
+// The three programs that print have this module each: no contract can say what is written, so that of a crate for it would say nothing.
 #[derive(Drop)]
 pub(crate) struct Output;
 
