@@ -2,7 +2,7 @@
 ghost use Rattle.std.specs.Prelude.{◌≤◌, ◌<◌, ◌+◌, length, IfOk};
 
 use crate::answer::Answer;
-use crate::output::Output;
+use crate::printer::Printer;
 use std::fmt;
 use std::fmt::Write;
 
@@ -21,7 +21,7 @@ impl fmt::Display for Run {
 
 impl Run {
     // The run with one answer more. If that is another answer, the run is written, and a new one begins.
-    fn with(self, answer: Answer, out: &mut Output) -> Result<Run, fmt::Error>
+    fn with(self, answer: Answer, out: &mut Printer) -> Result<Run, fmt::Error>
         requires { self.count < 256 }
         ensures { IfOk result (λ run. run.count ≤ self.count + 1) }
     {
@@ -39,7 +39,7 @@ impl Run {
 }
 
 // The line for byte i, which stands as it was in the end.
-fn replay_byte(out: &mut Output, file: &mut [u8], i: usize) -> fmt::Result
+fn replay_byte(out: &mut Printer, file: &mut [u8], i: usize) -> fmt::Result
     requires { i < length file.old }
 {
     let old = file[i];
@@ -58,7 +58,7 @@ fn replay_byte(out: &mut Output, file: &mut [u8], i: usize) -> fmt::Result
 }
 
 // A line for each byte.
-pub(crate) fn replay(out: &mut Output, file: &mut [u8]) -> fmt::Result {
+pub(crate) fn replay(out: &mut Printer, file: &mut [u8]) -> fmt::Result {
     for i in 0..file.len() {
         replay_byte(out, file, i)?;
     }

@@ -1,7 +1,7 @@
 // The lines of the input, each a case.
 use crate::answer::{Answer, Cuts};
 use crate::changes;
-use crate::output::Output;
+use crate::printer::Printer;
 use std::fmt;
 use std::fmt::Write;
 
@@ -9,12 +9,12 @@ use std::fmt::Write;
 const MOST: usize = 4096;
 
 // A line that is no case.
-fn replay_broken(out: &mut Output) -> fmt::Result {
+fn replay_broken(out: &mut Printer) -> fmt::Result {
     writeln!(out, "?")
 }
 
 // A case by its kind.
-fn replay_kind(out: &mut Output, kind: u8, file: &mut [u8]) -> fmt::Result {
+fn replay_kind(out: &mut Printer, kind: u8, file: &mut [u8]) -> fmt::Result {
     match kind {
         b'=' => match Answer::on(file).0 {
             None => writeln!(out, "model"),
@@ -27,7 +27,7 @@ fn replay_kind(out: &mut Output, kind: u8, file: &mut [u8]) -> fmt::Result {
 }
 
 // A line. One with more bytes than there is room for is broken, and so is one with a digit in upper case, which `hex` would take.
-fn replay(out: &mut Output, line: &[u8]) -> fmt::Result {
+fn replay(out: &mut Printer, line: &[u8]) -> fmt::Result {
     let Some((kind, digits)) = line.split_first() else {
         return replay_broken(out);
     };
@@ -44,7 +44,7 @@ fn replay(out: &mut Output, line: &[u8]) -> fmt::Result {
 }
 
 // All lines. The last may have no line feed.
-pub(crate) fn replay_all(out: &mut Output, text: &[u8]) -> fmt::Result {
+pub(crate) fn replay_all(out: &mut Printer, text: &[u8]) -> fmt::Result {
     for line in text.split_inclusive(|c| *c == b'\n') {
         replay(out, line.strip_suffix(b"\n").unwrap_or(line))?;
     }

@@ -13,9 +13,9 @@
 mod answer;
 mod changes;
 mod lines;
-mod output;
+mod printer;
 
-use output::Output;
+use printer::Printer;
 use std::fmt;
 use std::fmt::Write;
 
@@ -23,7 +23,7 @@ use std::fmt::Write;
 const TOO_MANY: usize = 262144;
 
 // Replays the input, unless there is too much of it.
-fn replay_input(out: &mut Output, text: &[u8]) -> fmt::Result {
+fn replay_input(out: &mut Printer, text: &[u8]) -> fmt::Result {
     if text.len() < TOO_MANY {
         lines::replay_all(out, text)
     } else {
@@ -35,5 +35,5 @@ fn replay_input(out: &mut Output, text: &[u8]) -> fmt::Result {
 fn main() {
     let mut input = [0; TOO_MANY];
     let n = io::read_full(0, &mut input);
-    let _ = replay_input(&mut Output, &input[..n]);
+    let _ = replay_input(&mut Printer, &input[..n]);
 }

@@ -3,9 +3,9 @@
 #![tactic(auto)]
 
 mod model;
-mod output;
+mod printer;
 
-use output::Output;
+use printer::Printer;
 use std::fmt;
 use std::fmt::Write;
 use stored::file::File;
@@ -15,7 +15,7 @@ use stored::file::File;
 const MOST: usize = 4096;
 
 // Says what some bytes hold.
-fn show(out: &mut Output, s: &[u8]) -> fmt::Result {
+fn show(out: &mut Printer, s: &[u8]) -> fmt::Result {
     match File::read(s) {
         Ok(file) => model::show_model(out, &file),
         Err(fault) => writeln!(out, "malformed: the field at offset {}", fault.offset),
@@ -26,5 +26,5 @@ fn show(out: &mut Output, s: &[u8]) -> fmt::Result {
 fn main() {
     let mut input = [0; MOST];
     let n = io::read_full(0, &mut input);
-    let _ = show(&mut Output, &input[..n]);
+    let _ = show(&mut Printer, &input[..n]);
 }

@@ -3,7 +3,7 @@ ghost use Rattle.std.specs.Prelude.{◌≡◌, ◌<◌, length};
 ghost use Rattle.stored.specs.File.{held};
 ghost use Rattle.show.specs.Representatives.{representatives_from};
 
-use crate::output::Output;
+use crate::printer::Printer;
 use std::fmt;
 use std::fmt::Write;
 use stored::file::File;
@@ -36,13 +36,13 @@ fn representatives(roots: &[u8]) -> usize
 }
 
 // How many types there are, and how many elements each has.
-fn show_types(out: &mut Output, file: &File<'_>) -> fmt::Result {
+fn show_types(out: &mut Printer, file: &File<'_>) -> fmt::Result {
     let types = file.types();
     writeln!(out, "types {}:{}", types.len(), Spaced(types))
 }
 
 // How many elements there are, and how many of them are their own representative.
-fn show_elements(out: &mut Output, file: &File<'_>) -> fmt::Result {
+fn show_elements(out: &mut Printer, file: &File<'_>) -> fmt::Result {
     let roots = file.roots();
     writeln!(
         out,
@@ -53,7 +53,7 @@ fn show_elements(out: &mut Output, file: &File<'_>) -> fmt::Result {
 }
 
 // A relation's number, the types of its columns, and how many rows it has.
-fn show_relation(out: &mut Output, file: &File<'_>, k: usize) -> fmt::Result
+fn show_relation(out: &mut Printer, file: &File<'_>, k: usize) -> fmt::Result
     requires { k < length (held file.now).relations }
 {
     writeln!(
@@ -65,7 +65,7 @@ fn show_relation(out: &mut Output, file: &File<'_>, k: usize) -> fmt::Result
 }
 
 // How many relations there are, and each of them.
-fn show_relations(out: &mut Output, file: &File<'_>) -> fmt::Result {
+fn show_relations(out: &mut Printer, file: &File<'_>) -> fmt::Result {
     writeln!(out, "relations {}", file.relations())?;
     for k in 0..file.relations() {
         show_relation(out, file, k)?;
@@ -74,13 +74,12 @@ fn show_relations(out: &mut Output, file: &File<'_>) -> fmt::Result {
 }
 
 // The whole model, and whether it is canonical.
-pub(crate) fn show_model(out: &mut Output, file: &File<'_>) -> fmt::Result {
-    let form = if file.is_canonical() {
-        "canonical"
+pub(crate) fn show_model(out: &mut Printer, file: &File<'_>) -> fmt::Result {
+    if file.is_canonical() {
+        writeln!(out, "model, canonical")?;
     } else {
-        "not canonical"
-    };
-    writeln!(out, "model, {form}")?;
+        writeln!(out, "model, not canonical")?;
+    }
     show_types(out, file)?;
     show_elements(out, file)?;
     show_relations(out, file)

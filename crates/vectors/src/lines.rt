@@ -1,5 +1,5 @@
 // The lines of the input, each a call.
-use crate::output::Output;
+use crate::printer::Printer;
 use crate::reply::Reply;
 use crate::{finds, maps};
 use rows::check::check;
@@ -51,7 +51,7 @@ fn replay(line: &[u8]) -> Option<Reply> {
 }
 
 // All lines.
-pub(crate) fn replay_all(out: &mut Output, text: &[u8]) -> fmt::Result {
+pub(crate) fn replay_all(out: &mut Printer, text: &[u8]) -> fmt::Result {
     for line in text.split_inclusive(|c| *c == b'\n') {
         let line = line.strip_suffix(b"\n").unwrap_or(line);
         match replay(line) {

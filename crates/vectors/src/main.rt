@@ -23,15 +23,15 @@ mod finds;
 mod lines;
 mod maps;
 mod numbers;
-mod output;
+mod printer;
 mod reply;
 
-use output::Output;
+use printer::Printer;
 use std::fmt;
 use std::fmt::Write;
 
 // Replays the input, read into a buffer. One that fills the buffer is not replayed, since it may go on past it.
-fn replay_input(out: &mut Output, buffer: &mut [u8]) -> fmt::Result {
+fn replay_input(out: &mut Printer, buffer: &mut [u8]) -> fmt::Result {
     let n = io::read_full(0, buffer);
     if n < buffer.len() {
         lines::replay_all(out, &buffer[..n])
@@ -43,5 +43,5 @@ fn replay_input(out: &mut Output, buffer: &mut [u8]) -> fmt::Result {
 // Where reading fails the input ends. The input's buffer has a fixed size, so that a longer input is seen to be one.
 fn main() {
     let mut buffer = [0; 1048576];
-    let _ = replay_input(&mut Output, &mut buffer);
+    let _ = replay_input(&mut Printer, &mut buffer);
 }
